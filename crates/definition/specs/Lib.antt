@@ -1,0 +1,13 @@
+pub mod Lists
+pub mod House
+pub mod Message
+pub mod Model
+pub mod ModelBytes
+pub mod State
+pub mod Record
+pub mod Calls
+pub mod BadState
+pub mod Run
+pub mod Rehearsal
+pub mod Host
+pub mod Program
