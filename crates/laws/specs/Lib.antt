@@ -1,2 +1,7 @@
 pub mod Order
 pub mod Lists
+pub mod Places
+pub mod Rising
+pub mod Slices
+pub mod Moves
+pub mod Walks
