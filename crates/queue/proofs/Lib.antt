@@ -1,0 +1,9 @@
+pub mod Reading
+pub mod Nets
+pub mod Orders
+pub mod Arrivals
+pub mod Verdicts
+pub mod Cuts
+pub mod Walk
+pub mod Least
+pub mod Joins
