@@ -1,0 +1,4 @@
+pub mod Memory
+pub mod Promise
+pub mod Laws
+pub mod Keeping
