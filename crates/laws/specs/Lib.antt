@@ -5,3 +5,4 @@ pub mod Rising
 pub mod Slices
 pub mod Moves
 pub mod Walks
+pub mod Writing
