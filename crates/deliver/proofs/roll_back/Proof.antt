@@ -49,7 +49,7 @@ returns c =
       few-events = omega (arith, c .before .cut-back .ensures .fits, c .before .before .load .ensures .count, c .before .before .before .size2 .ensures);
       events-kept = savedAt-before (a .own .now) (number (a .own .now) 2) (a .time) (c .before .cut-back .result .count) (b .pre .history-order) (omega (arith, c .before .cut-back .ensures .fits, c .before .before .load .ensures .count, c .before .before .before .size2 .ensures)) (rw (c .before .before .load .ensures .same, c .before .before .before .size2 .ensures) at (c .before .cut-back .ensures .count));
       cancelled-sends = rw (c .before .before .before .before .before .size .ensures);
-      undone-events = rw (c .before .before .before .size2 .ensures) (rw (c .before .before .load .ensures .same, c .before .before .load .ensures .count, c .before .before .before .size2 .ensures) at (c .before .cut-back .ensures .undone));
+      undone-events = omega (arith, c .before .before .load .ensures .count, c .before .before .before .size2 .ensures, rw (c .before .before .load .ensures .same, c .before .before .before .size2 .ensures) at (c .before .cut-back .ensures .undone));
     }
 
 pub roll-back-spec : {M : Type 1} → statement M
