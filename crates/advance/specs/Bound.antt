@@ -1,6 +1,5 @@
 -- How far an advance goes, told by the rows: the least unread time of the processes, and the horizon.
-use mathlib.Core.Path.{_≡_, refl, sym, ap, _∙_}
-use mathlib.Core.List.{List, []}
+use mathlib.Core.Path.{_≡_, refl, ap}
 use Prim.Native.Nat.{ℕ, zero, suc, _-_, _≤_, _<_, min, max}
 use native.Mathlib.Omega.{arith}
 use Rattle.definition.specs.declared.Stand.{Stand}
