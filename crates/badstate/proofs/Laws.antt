@@ -16,7 +16,7 @@ use Rattle.definition.specs.BadState.{okEntry, okOutput, okSaved, okProcess, ok
 use Rattle.laws.specs.Places.{and-true, true-and}
 use Rattle.laws.specs.Walks.{walked}
 use Rattle.queue.specs.Rows.{entryOf, messageOf, mails}
-use Rattle.queue.specs.Queues.{entryKey}
+use Rattle.definition.specs.State.{entryKey}
 use Rattle.history.specs.Rows.{savedOf}
 use Rattle.rule.specs.Rows.{processesOf, modelOf, lawfulModel, shapedModel}
 use Rattle.ranges.specs.Keys.{savedKey}

@@ -15,13 +15,14 @@ use Rattle.definition.specs.declared.Call.the-variants.{Deliver}
 use Rattle.definition.specs.BadState.{okMessage, okMail, okEntry, call}
 use Rattle.definition.specs.State.{Process, Mail, State, noMail, process, sentFrom, counted}
 use Rattle.definition.specs.Calls.{Result, done, check}
-use Rattle.laws.specs.Places.{and-true}
+use Rattle.laws.specs.Places.{all-at, and-true}
 use Rattle.laws.specs.Slices.{map-take-at}
 use Rattle.lawful.specs.Changes.{cutState}
-use Rattle.lawful.specs.Open.{Lawful, lawful as parts, LawfulProcess, process-of, message-parts, entry-parts, okNets}
-use Rattle.lawful.specs.Queues.{all-at, all-so}
+use Rattle.lawful.specs.Open.{Lawful, lawful as parts, LawfulProcess, process-of, message-parts, entry-parts}
+use Rattle.definition.specs.BadState.{okNets}
+use Rattle.lawful.specs.Queues.{all-so}
 use Rattle.lawful.specs.Rollback.{lawful-rollback}
-use Rattle.lawful.specs.Tests.{length-keep}
+use Rattle.laws.specs.Tests.{length-keep}
 use Rattle.queue.specs.Rows.{mailOf}
 use Rattle.queue.specs.Queues.{Judged}
 use Rattle.rule.specs.Rows.{processesOf}

@@ -15,8 +15,8 @@ use Rattle.definition.specs.State.{Process, Mail, State, noMail, process, befor
 use Rattle.definition.specs.Calls.{refuse, done, check, roomy, fits, rollback, met, deliver}
 use Rattle.definition.specs.BadState.{bad, passes, call}
 use Rattle.lawful.specs.Changes.{cut, cutState, delivered-cut, delivered-here}
-use Rattle.lawful.specs.Open.{okNets}
-use Rattle.lawful.specs.Tests.{length-keep}
+use Rattle.definition.specs.BadState.{okNets}
+use Rattle.laws.specs.Tests.{length-keep}
 use Rattle.memory.specs.Keeping.{check-yes, check-no}
 
 or-false : {a b : Bool} → a ≡ false → b ≡ false → a || b ≡ false

@@ -20,10 +20,11 @@ use Rattle.laws.specs.Order.{keys-refl}
 use Rattle.demands.specs.InputQueue.{aboveZero, belowZero, above, below, weigh, one-sign, countedBy}
 use Rattle.demands.specs.Invariant.{first, Invariant, ProcessInvariant, output-sent, origin, sendings, sentSoFar}
 use Rattle.lawful.specs.Keys.{order, #}
-use Rattle.lawful.specs.Open.{okNets}
+use Rattle.definition.specs.BadState.{okNets}
 use Rattle.lawful.specs.Model.{few}
 use Rattle.lawful.specs.Sends.{event-sends, once}
-use Rattle.lawful.specs.Tests.{and-true, true-and, split}
+use Rattle.laws.specs.Places.{and-true, true-and}
+use Rattle.laws.specs.Tests.{split}
 use Rattle.demands.specs.Trace.{Trace, standFrom, sendsFrom, source, none-sent, sent}
 use Rattle.demands.specs.Transit.{positives, negatives, positiveHit, negativeHit, take-out, InTransit, transit-at}
 

@@ -19,7 +19,7 @@ use Rattle.lawful.specs.Changes.{worked}
 use Rattle.lawful.specs.Kept.{kept}
 use Rattle.lawful.specs.Open.{lawful as sane, process-of}
 use Rattle.queue.specs.Rows.{messageOf, entries, mails}
-use Rattle.queue.specs.Queues.{entryKey}
+use Rattle.definition.specs.State.{entryKey}
 use Rattle.history.specs.Laws.{savedAt-length}
 use Rattle.rule.specs.Rows.{ruleRows, processesOf, modelOf}
 use Rattle.rule.specs.Laws.{setup-at}

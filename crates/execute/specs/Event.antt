@@ -11,7 +11,8 @@ use Rattle.definition.specs.Message.{Message, lastUsable}
 use Rattle.definition.specs.Model.{Done, readBy, readAll}
 use Rattle.definition.specs.State.{plus, readsAt}
 use Rattle.queue.specs.Rows.{messageOf, entryOf, entries, messages, mails}
-use Rattle.queue.specs.Queues.{entryKey, Holds, isRead}
+use Rattle.queue.specs.Queues.{Holds, isRead}
+use Rattle.definition.specs.State.{entryKey}
 use Rattle.rule.specs.declared.Decoded.{Decoded}
 use Rattle.rule.specs.Rows.{ruleOf, ruleAt}
 use Rattle.execute.specs.declared.Batch.{Batch}

@@ -13,7 +13,7 @@ use Rattle.definition.specs.Model.{Done}
 use Rattle.definition.specs.State.{plus, last, unreadAfter, readsAt}
 use Rattle.lawful.specs.Changes.{worked}
 use Rattle.queue.specs.Rows.{entries, mails}
-use Rattle.queue.specs.Queues.{entryKey}
+use Rattle.definition.specs.State.{entryKey}
 use Rattle.history.specs.Rows.{savedAt}
 use Rattle.memory.specs.Memory.{number, processOf}
 use Rattle.execute.specs.Event.{eventOf}

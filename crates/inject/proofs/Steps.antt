@@ -18,7 +18,7 @@ use Rattle.definition.specs.State.{State, plus}
 use Rattle.definition.specs.Calls.{Result, refuse, done, check, injected, inject}
 use Rattle.definition.specs.BadState.{bad, call}
 use Rattle.lawful.specs.Kept.{kept}
-use Rattle.lawful.specs.Tests.{or-false}
+use Rattle.laws.specs.Tests.{or-false}
 use Rattle.queue.specs.Rows.{messageOf, mails}
 use Rattle.rule.specs.Rows.{processesOf}
 use Rattle.memory.specs.Memory.{Memory, stateOf, lawful, number, whole}

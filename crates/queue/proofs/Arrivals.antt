@@ -14,7 +14,8 @@ use Rattle.definition.specs.Message.{Message, messageKey}
 use Rattle.definition.specs.State.{Entry, entry, arrived, isZero, byOrder, counted}
 use Rattle.laws.specs.Slices.{map-append, map-take, map-drop, map-take-at, map-take-length}
 use Rattle.queue.specs.Rows.{messageOf, entryOf, entries, withLast}
-use Rattle.queue.specs.Queues.{okNets, readingOrder, Placed, Holds, countAt, moved, recounted, added}
+use Rattle.queue.specs.Queues.{readingOrder, Placed, Holds, countAt, moved, recounted, added}
+use Rattle.definition.specs.BadState.{okNets}
 use Rattle.queue.proofs.Nets.{net-new, net-moved}
 use Rattle.queue.proofs.Reading.{rank-same, is-before}
 use Rattle.queue.proofs.Orders.{counts}

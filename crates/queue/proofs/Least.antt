@@ -15,7 +15,7 @@ use Rattle.definition.specs.State.{Entry, unreadAfter}
 use Rattle.definition.specs.Calls.{leastMail}
 use Rattle.laws.specs.Slices.{part-length, part-at, part-none, part-back}
 use Rattle.queue.specs.Rows.{entryOf, entries, mailOf}
-use Rattle.queue.specs.Queues.{entryKey}
+use Rattle.definition.specs.State.{entryKey}
 use Rattle.queue.proofs.Nets.{net-positive}
 use Rattle.queue.proofs.Orders.{rows-rise}
 

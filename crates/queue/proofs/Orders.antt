@@ -16,7 +16,9 @@ use Rattle.laws.specs.Rising.{Rising, in-order-rises}
 use Rattle.laws.specs.Slices.{map-take-at, map-take-length}
 use Rattle.laws.specs.Places.{all-at, pairs, keys-turn}
 use Rattle.queue.specs.Rows.{messageOf, entryOf, entries, messages}
-use Rattle.queue.specs.Queues.{entryKey, okNets, readingOrder, Placed, sentAt, receivedAt}
+use Rattle.queue.specs.Queues.{readingOrder, Placed, sentAt, receivedAt}
+use Rattle.definition.specs.State.{entryKey}
+use Rattle.definition.specs.BadState.{okNets}
 use Rattle.queue.proofs.Nets.{net-range}
 
 module _ (q : List (List ℕ)) (n : ℕ) (l : n ≤ length q) where

@@ -14,7 +14,8 @@ use Rattle.definition.specs.BadState.{okNet}
 use Rattle.laws.specs.Slices.{map-take-length}
 use Rattle.laws.specs.Places.{and-true, true-and}
 use Rattle.queue.specs.Rows.{messageOf, netOf, entryOf, entries, withLast}
-use Rattle.queue.specs.Queues.{countAt, okNets, Placed, Judged, moved, added}
+use Rattle.queue.specs.Queues.{countAt, Placed, Judged, moved, added}
+use Rattle.definition.specs.BadState.{okNets}
 use Rattle.queue.proofs.Nets.{net-new, net-new-ok}
 use Rattle.queue.proofs.Arrivals.{New, Again, in-range, gone, kept}
 

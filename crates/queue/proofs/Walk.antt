@@ -14,7 +14,8 @@ use Rattle.definition.specs.Lists.{keep, inOrder}
 use Rattle.definition.specs.State.{Entry, readsAt}
 use Rattle.laws.specs.Slices.{keep-passes, part-length, part-at, part-cons, part-none, part-back}
 use Rattle.queue.specs.Rows.{messageOf, entryOf, entries}
-use Rattle.queue.specs.Queues.{entryKey, receivedAt, Parted, isRead, readsFrom}
+use Rattle.queue.specs.Queues.{receivedAt, Parted, isRead, readsFrom}
+use Rattle.definition.specs.State.{entryKey}
 use Rattle.queue.proofs.Orders.{rows-rise}
 
 -- ---- what an event reads

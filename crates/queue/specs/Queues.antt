@@ -10,17 +10,11 @@ use Rattle.definition.specs.Lists.{keep, all, compareKeys}
 use Rattle.definition.specs.Message.{Message, messageKey}
 use Rattle.definition.specs.State.{Entry, entry, arrived, isZero, positive, readsAt}
 use Rattle.definition.specs.BadState.{okNet}
+use Rattle.definition.specs.State.{entryKey}
+use Rattle.definition.specs.BadState.{okNets}
 use Rattle.queue.specs.Rows.{messageOf, entryOf}
 
 -- ---- what is asked for
-
--- input entries stand by their messages
-abbrev pub entryKey : Entry → List ℕ
-entryKey e = messageKey (e .message)
-
--- net counts within -129 to 129, and not 0
-abbrev pub okNets : List Entry → Bool
-okNets l = all (λ (e : Entry). okNet (e .net)) l
 
 -- ---- what a function leaves
 

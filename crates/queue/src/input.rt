@@ -18,7 +18,9 @@ ghost use Rattle.definition.specs.Lists.{keep, inOrder};
 ghost use Rattle.definition.specs.State.{Entry, counted, readsAt, unreadAfter};
 ghost use Rattle.definition.specs.BadState.{okNet};
 ghost use Rattle.queue.specs.Rows.{messageOf, netOf, entryOf, entries};
-ghost use Rattle.queue.specs.Queues.{entryKey, okNets, receivedAt, Holds, Placed, Parted, Judged, isRead, countAt, moved, recounted, added};
+ghost use Rattle.queue.specs.Queues.{receivedAt, Holds, Placed, Parted, Judged, isRead, countAt, moved, recounted, added};
+ghost use Rattle.definition.specs.State.{entryKey};
+ghost use Rattle.definition.specs.BadState.{okNets};
 
 // The last word of a row: its net count + 256.
 const COUNT: usize = LAST;

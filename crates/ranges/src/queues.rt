@@ -16,7 +16,7 @@ ghost use Rattle.definition.specs.Message.{outputKey};
 ghost use Rattle.definition.specs.BadState.{okEntry, okOutput, hasRun, okSaved, okMail};
 ghost use Rattle.laws.specs.Walks.{beforeNext};
 ghost use Rattle.queue.specs.Rows.{messageOf, entryOf, mailOf};
-ghost use Rattle.queue.specs.Queues.{entryKey};
+ghost use Rattle.definition.specs.State.{entryKey};
 ghost use Rattle.history.specs.Rows.{savedOf};
 ghost use Rattle.ranges.specs.Keys.{savedKey};
 

@@ -17,6 +17,7 @@ use Rattle.definition.specs.declared.Value.the-variants.{Fixed, Tally, Read}
 use Rattle.definition.specs.declared.Stand.{Stand}
 use Rattle.definition.specs.Lists.{all, inOrder}
 use Rattle.definition.specs.Model.{Rule, Setup, Model, noSetup, setup, okRule, okStand, okSetup, okModel, find, readBy}
+use Rattle.laws.specs.Places.{and-true}
 use Rattle.rule.specs.declared.Decoded.{Decoded}
 use Rattle.rule.specs.Rows.{effectOf, valueOf, decoded, effectTag, effectNumber, valueTag, valueNumber, encoded, heading, ruleRows, setupOf, processesOf, modelOf, standAfter, shapedRule, shapedSetup, shapedModel, lawfulModel}
 
@@ -44,10 +45,6 @@ stands none p t n s v = refl
 stands (some r) p t n s v = refl
 
 -- ---- tests
-
-pub and-true : (a b : Bool) → a && b ≡ true → (a ≡ true) × (b ≡ true)
-and-true true b e = (refl, e)
-and-true false b e = let z : _≡_ {A = ℕ} 0 1 = cc in absurd (omega arith)
 
 pub and-false : (a : Bool) → a && false ≡ false
 and-false true = refl

@@ -6,7 +6,8 @@ use Prim.Native.Nat.{_+_}
 use lib.ListN.{getD}
 use Rattle.laws.specs.Walks.{last-row, row-next}
 use Rattle.queue.specs.Rows.{entryOf}
-use Rattle.queue.specs.Queues.{entryKey, readingOrder}
+use Rattle.queue.specs.Queues.{readingOrder}
+use Rattle.definition.specs.State.{entryKey}
 use Rattle.ranges.proofs.Rows.{less-by-order}
 use Rattle.ranges.proofs.queues.entry_before_next.Statement.{statement}
 use Rattle.ranges.proofs.queues.entry_before_next.Tie as tie

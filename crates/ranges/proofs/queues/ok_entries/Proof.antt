@@ -8,7 +8,7 @@ use lib.ListN.{length, drop}
 use Rattle.definition.specs.BadState.{okEntry}
 use Rattle.laws.specs.Walks.{walked, walk-end, walk-wrong, walk-unordered, walk-right, yes-said, no-said}
 use Rattle.queue.specs.Rows.{entryOf}
-use Rattle.queue.specs.Queues.{entryKey}
+use Rattle.definition.specs.State.{entryKey}
 use Rattle.ranges.proofs.queues.ok_entries.Statement.{statement}
 use Rattle.ranges.proofs.queues.ok_entries.Tie as tie
 
