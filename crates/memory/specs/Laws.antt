@@ -9,7 +9,7 @@ use native.Mathlib.Decide.{ℕ-discrete}
 use native.Mathlib.Nat.{zero-add, le-of-suc-le-suc, not-suc-le-zero}
 use lib.Dec.{leb, eqb}
 use lib.ListN.{length, getD, take, set, length-map, length-set}
-use lib.Seq.{length-take-le, getD-set-same, getD-set-other, drop-set-lt}
+use lib.Seq.{length-take-le, getD-set-same, getD-set-other}
 use borrow.Author.Tests.{eqb-true, eq-eqb, leb-true, le-leb, not-true}
 use Rattle.definition.specs.declared.Stand.{Stand}
 use Rattle.definition.specs.declared.Saved.{Saved}
@@ -19,7 +19,6 @@ use Rattle.definition.specs.State.{Entry, Process, Mail, State, process}
 use Rattle.definition.specs.BadState.{bad}
 use Rattle.laws.specs.Places.{and-true, true-and}
 use Rattle.queue.specs.Rows.{mailOf, mails}
-use Rattle.history.specs.Rows.{savedOf, savedAt}
 use Rattle.rule.specs.Rows.{processesOf, setupOf, modelOf, shapedModel}
 use Rattle.memory.specs.Memory.{Memory, stateOf, shaped, shapedAt, lawful, number, ownAt, inputAt, outputAt, processOf, processAt, whole, listed, allOf}
 
@@ -187,15 +186,6 @@ module _ {M M′ : Model} {P P′ : List Process} {T T′ : List Mail} {h h′ n
 module _ {b b′ : Stand} {i i′ : List Entry} {o o′ : List Message} {h h′ : List Saved} where
   pub same-process : b ≡ b′ → i ≡ i′ → o ≡ o′ → h ≡ h′ → _≡_ {A = Process} (record { base = b; input = i; output = o; history = h }) (record { base = b′; input = i′; output = o′; history = h′ })
   same-process e f g k = cc
-
--- ---- a first row is put down: its numbers, and the events are as they were
-
-module _ (rows : List (List ℕ)) (row : List ℕ) where
-  pub number-first : (k : ℕ) → 0 < length rows → number (set rows 0 row) k ≡ getD row k 0
-  number-first k h = ap (λ (l : List ℕ). getD l k 0) (getD-set-same rows 0 row [] h)
-
-  pub saved-first : (n : ℕ) → savedAt (set rows 0 row) n ≡ savedAt rows n
-  saved-first n = ap (λ (l : List (List ℕ)). map savedOf (take n l)) (drop-set-lt 1 rows 0 row (omega arith))
 
 -- ---- the rows of one process change
 
