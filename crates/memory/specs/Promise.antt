@@ -13,7 +13,7 @@ use Rattle.definition.specs.Record.{onto}
 use Rattle.definition.specs.Calls.{Result, check, start}
 use Rattle.definition.specs.BadState.{call}
 use Rattle.rule.specs.Rows.{processesOf, modelOf, shapedModel}
-use Rattle.memory.specs.Memory.{Memory, allOf, whole, stateOf, shaped, lawful, Table, Rows, Lent, held, entered, left}
+use Rattle.memory.specs.Memory.{Memory, allOf, stateOf, shaped, lawful, Table, Rows, Lent, held, entered, left}
 
 abbrev pub isRefusal : Answer → Bool
 isRefusal (Refused n) = true
@@ -56,21 +56,30 @@ Commits model inputs outputs transit own buffer c a =
 pub one-answer : (m : Memory) (c : Call) (a b : Answer) (w v : Memory) → Kept m c a w → Kept m c b v → (a ≡ b) × (stateOf w ≡ stateOf v)
 one-answer m c a b w v h k = (h .answer ∙ sym (k .answer), h .state ∙ sym (k .state))
 
+-- and an advance one list of bytes too
+pub one-record : (m : Memory) (c : Call) (a b : Answer) (w v : Memory) (before x y : List ℕ) → Committed m c a w before x → Committed m c b v before y
+    → (a ≡ b) × (stateOf w ≡ stateOf v) × (x ≡ y)
+one-record m c a b w v before x y h k = let one = one-answer m c a b w v (h .kept) (k .kept) in (one .0, one .1, h .buffer ∙ sym (k .buffer))
+
 -- ---- start
 
--- the lists are as long as they must be, whatever they say: of one process its input rows, its output rows and its own rows; and of all
+-- the lists are as long as they must be, whatever they say: of one process its input rows, its output rows and its own rows; and of the first n
 abbrev pub sizedRows : Rows → Rows → Rows → Bool
 sizedRows inputs outputs own = eqb (length inputs) 64 && (eqb (length outputs) 64 && eqb (length own) 33)
 
-unfoldable pub sized : Memory → Bool
+unfoldable pub sizedFor : ℕ → Table → Table → Rows → Table → Bool
 unfolding allOf
-sized m =
-    eqb (length (m .inputs)) 8 && (eqb (length (m .outputs)) 8 && (eqb (length (m .transit)) 128 && (eqb (length (m .own)) 9 && (eqb (length (whole m)) 33
-    && allOf 0 (processesOf (m .model)) (λ p. sizedRows (getD (m .inputs) p []) (getD (m .outputs) p []) (getD (m .own) p []))))))
+sizedFor n inputs outputs transit own =
+    eqb (length inputs) 8 && (eqb (length outputs) 8 && (eqb (length transit) 128 && (eqb (length own) 9 && (eqb (length (getD own 8 [])) 33
+    && allOf 0 n (λ p. sizedRows (getD inputs p []) (getD outputs p []) (getD own p []))))))
+
+-- of all processes of the model
+abbrev pub sized : Memory → Bool
+sized m = sizedFor (processesOf (m .model)) (m .inputs) (m .outputs) (m .transit) (m .own)
 
 -- What is due of a start: 16 where the model's rows or the lists have not their lengths, else what the definition says of the model
 unfoldable pub dueStart : Memory → Result
-unfolding shapedModel sized stateOf start check
+unfolding shapedModel sizedFor stateOf start check
 dueStart m = check (not (shapedModel (m .model) && sized m)) 16 (stateOf m) (start (stateOf m) (modelOf (m .model)))
 
 -- The promise of a start: m the memory at entry, a the answer, w the memory at exit

@@ -11,8 +11,8 @@ use lib.Dec.{eqb}
 use borrow.Author.Tests.{eqb-true}
 use Rattle.laws.specs.Places.{and-true}
 use Rattle.rule.specs.Rows.{processesOf}
-use Rattle.memory.specs.Memory.{Memory, allOf, whole}
-use Rattle.memory.specs.Promise.{sizedRows, sized}
+use Rattle.memory.specs.Memory.{Memory, Table, Rows, allOf, whole}
+use Rattle.memory.specs.Promise.{sizedRows, sizedFor, sized}
 use Rattle.memory.specs.Laws.{all-of-at, at-all-of}
 
 module _ (n : ℕ) (f : ℕ → Bool) where
@@ -43,7 +43,7 @@ pub record Sizes (m : Memory) : Type 0 where
   pub at : (p : ℕ) → p < processesOf (m .model) → SizesAt m p
 
 pub sizes : (m : Memory) → sized m ≡ true → Sizes m
-unfolding sized
+unfolding sizedFor
 sizes m s =
     let a = and-true (eqb (length (m .inputs)) 8) _ s in
     let b = and-true (eqb (length (m .outputs)) 8) _ (a .1) in
@@ -64,3 +64,12 @@ sizes m s =
         let i = and-true (eqb (length (getD (m .inputs) p [])) 64) _ k in
         let o = and-true (eqb (length (getD (m .outputs) p [])) 64) _ (i .1) in
         record { inputs = eqb-true _ _ (i .0); outputs = eqb-true _ _ (o .0); own = eqb-true _ _ (o .1) }
+
+-- the list of own rows, whatever the number of processes
+pub own-long : (n : ℕ) (inputs outputs : Table) (transit : Rows) (own : Table) → sizedFor n inputs outputs transit own ≡ true → length own ≡ 9
+unfolding sizedFor
+own-long n inputs outputs transit own s =
+    let a = and-true (eqb (length inputs) 8) _ s in
+    let b = and-true (eqb (length outputs) 8) _ (a .1) in
+    let c = and-true (eqb (length transit) 128) _ (b .1) in
+    eqb-true _ _ (and-true (eqb (length own) 9) _ (c .1) .0)

@@ -7,9 +7,8 @@ ghost use mathlib.Core.Path.{_≡_};
 ghost use mathlib.Core.List.{[]};
 ghost use Prim.Native.Nat.{_≤_};
 ghost use lib.ListN.{length, getD};
-ghost use Rattle.rule.specs.Rows.{processesOf};
-ghost use Rattle.memory.specs.Memory.{allOf, entered};
-ghost use Rattle.memory.specs.Promise.{sizedRows, sized, Begins};
+ghost use Rattle.memory.specs.Memory.{allOf};
+ghost use Rattle.memory.specs.Promise.{sizedRows, sizedFor, Begins};
 ghost use Rattle.start.specs.First.{firstRow, Placed};
 
 // The rows of one process are as many as there must be.
@@ -45,16 +44,16 @@ fn sized_processes(
     true
 }
 
-// All lists are as long as they must be.
-fn is_sized(
-    model: &[[[u32; 16]; 65]],
+// All lists are as long as they must be for so many processes.
+pub fn is_sized(
     inputs: &[[[u32; 8]; 64]],
     outputs: &[[[u32; 8]; 64]],
     transit: &[[u32; 8]],
     own: &[[[u32; 8]; 33]],
+    processes: usize,
 ) -> bool
-    requires { ⌜ processesOf (now model) ≤ 8 ⌝ }
-    ensures { λ r. ⌜ r ≡ sized (entered model inputs outputs transit own) ⌝ }
+    requires { ⌜ processes ≤ 8 ⌝ }
+    ensures { λ r. ⌜ r ≡ sizedFor processes (now (inputs .entry)) (now (outputs .entry)) (now (transit .entry)) (now (own .entry)) ⌝ }
 {
     if inputs.len() != 8 {
         return false;
@@ -71,7 +70,7 @@ fn is_sized(
     if queue::facts::rows_of(&own[WHOLE]) != 33 {
         return false;
     }
-    sized_processes(inputs, outputs, own, memory::size(rule::processes(model)))
+    sized_processes(inputs, outputs, own, processes)
 }
 
 // The first row of a process that stands where the model says: all its counts are 0.
@@ -88,7 +87,7 @@ fn place(model: &[[[u32; 16]; 65]], own: &mut [[[u32; 8]; 33]], processes: usize
 {
     let mut p: usize = 0;
     while p < processes {
-        own[p][0] = first_row(rule::first(&model[p]));
+        own[p][0] = first_row(table::first(&model[p]));
         p = p + 1;
     }
 }
@@ -106,10 +105,11 @@ pub fn start(
     if !rulecheck::lawful(model) {
         return Answer::Refused(16);
     }
-    if !is_sized(model, inputs, outputs, transit, own) {
+    let processes = memory::size(table::processes(model));
+    if !is_sized(inputs, outputs, transit, own, processes) {
         return Answer::Refused(16);
     }
-    place(model, own, memory::size(rule::processes(model)));
+    place(model, own, processes);
     own[WHOLE][0] = [0, 0, 0, 0, 0, 0, 0, 0];
     Answer::Started
 }

@@ -1,0 +1,4 @@
+pub mod Turning
+pub mod Reading
+pub mod Running
+pub mod Starting
