@@ -1,7 +1,7 @@
 -- A house number that is read is at most the largest, and the next place is past its own and within the bytes; so the place after a call is past the
--- call's. Neither asks that the list holds bytes.
+-- call's, and what a call's or a model's fault is told at is within them. Nothing here asks that the list holds bytes.
 use mathlib.Core.Path.{_≡_, refl}
-use mathlib.Core.Bool.{Bool, true, false, cond, _&&_}
+use mathlib.Core.Bool.{Bool, true, false, cond, _&&_, _||_}
 use mathlib.Core.List.{List, [], _∷_}
 use Prim.Native.Nat.{ℕ, zero, suc, _+_, _-_, _*_, _%_, _≤_, _<_}
 use native.Mathlib.Omega.{arith}
@@ -13,7 +13,8 @@ use Rattle.definition.specs.declared.Number.the-variants.{Read, Fault as Number
 use Rattle.definition.specs.declared.Call.{Call}
 use Rattle.definition.specs.declared.Call.the-variants.{Deliver, Execute, Advance}
 use Rattle.definition.specs.House.{largest, moreGroups, lastGroups, ends, readGroups, numberAt}
-use Rattle.definition.specs.ModelBytes.{Parsed, Got, Fault, andThen, mapped, ranged, field}
+use Rattle.definition.specs.Model.{Model}
+use Rattle.definition.specs.ModelBytes.{Parsed, Got, Fault, andThen, mapped, ranged, field, inOrderAt, effectBy, effectAt, valueBy, valueAt, sendAt, sendsAt, ruleAt, rulesAt, setupAt, setupsAt, whole, modelIn}
 use Rattle.definition.specs.Program.{bufferLength, argument, callBy, callAt}
 use Rattle.house.specs.Groups.{capacity, Room, room-first, room-next, room-sum, byte-cut, byte-held}
 use Rattle.house.specs.Numbers.{holds}
@@ -73,59 +74,168 @@ number-placed bs at n next = go (groups moreGroups 1 0 at (drop at bs) room-firs
         record { small = omega (arith, holds); after = omega arith; within = omega (arith, length-drop at bs) }
     go fails e = let z : _≡_ {A = ℕ} 0 1 = cc in absurd (omega arith)
 
+-- ---- what is read from a place on
+
+-- the place after what is read is at or after `low` and not past `end`; nor is a fault's
+data Past {A : Type 0} (low end : ℕ) : Parsed A → Type 0 where
+  past : {a : A} {next : ℕ} → low ≤ next → next ≤ end → Past low end (Got a next)
+  fault : {n place : ℕ} → place ≤ end → Past low end (Fault n place)
+
+then-past : {A B : Type 0} {low end : ℕ} {p : Parsed A} (f : A → ℕ → Parsed B)
+    → Past low end p → ((a : A) (next : ℕ) → low ≤ next → next ≤ end → Past low end (f a next)) → Past low end (andThen p f)
+then-past f (past l m) h = h _ _ l m
+then-past f (fault m) h = fault m
+
+mapped-past : {A B : Type 0} {low end : ℕ} {p : Parsed A} (f : A → B) → Past low end p → Past low end (mapped f p)
+mapped-past f (past l m) = past l m
+mapped-past f (fault m) = fault m
+
+fault-past : {A : Type 0} {low end n place : ℕ} → Past {A = A} low end (Fault n place) → place ≤ end
+fault-past (fault m) = m
+
+module _ (bs : List ℕ) (low : ℕ) where
+  abbrev Reads : {A : Type 0} → Parsed A → Type 0
+  Reads p = Past low (length bs) p
+
+  field-past : (least most : ℕ) {at : ℕ} → low ≤ suc at → at ≤ length bs → Reads (field bs least most at)
+  unfolding field
+  field-past least most {at} h l = go (numberAt bs at) refl
+    where
+      go : (k : Number) → numberAt bs at ≡ k → Reads (ranged least most at k)
+      go (NumberFault n) e = fault l
+      go (Read v next) e = within (leb least v && leb v most) (number-placed bs at v next e)
+        where
+          within : (b : Bool) → Placed bs at v next → Reads (cond b (Got v next) (Fault 12 at))
+          within true p = past {next = next} (omega (arith, p .after)) (p .within)
+          within false p = fault l
+
+  -- a field after what was read
+  more : (least most : ℕ) {at : ℕ} → low ≤ at → at ≤ length bs → Reads (field bs least most at)
+  more least most h l = field-past least most (omega arith) l
+
 -- ---- calls
 
--- the place after what is read is past `at` and not past `end`
-data Past {A : Type 0} (at end : ℕ) : Parsed A → Type 0 where
-  past : {a : A} {next : ℕ} → at < next → next ≤ end → Past at end (Got a next)
-  fault : {n place : ℕ} → Past at end (Fault n place)
+module _ (bs : List ℕ) (at : ℕ) (l : at ≤ length bs) where
+  call-past : Past (suc at) (length bs) (callAt bs at)
+  unfolding callAt
+  call-past = then-past (callBy bs) (field-past bs (suc at) 0 3 (omega arith) l) by
+    where
+      one : {place : ℕ} → suc at ≤ place → place ≤ length bs → Past (suc at) (length bs) (argument bs place)
+      one h m = more bs (suc at) 0 largest h m
 
-field-past : (bs : List ℕ) (low high at : ℕ) → Past at (length bs) (field bs low high at)
-unfolding field
-field-past bs low high at = go (numberAt bs at) refl
-  where
-    go : (k : Number) → numberAt bs at ≡ k → Past at (length bs) (ranged low high at k)
-    go (NumberFault n) e = fault
-    go (Read v next) e = within (leb low v && leb v high) (number-placed bs at v next e)
-      where
-        within : (b : Bool) → Placed bs at v next → Past at (length bs) (cond b (Got v next) (Fault 12 at))
-        within true p = past (p .after) (p .within)
-        within false p = fault
+      by : (tag place : ℕ) → suc at ≤ place → place ≤ length bs → Past (suc at) (length bs) (callBy bs tag place)
+      by zero place h m =
+          then-past _ (one h m) (λ number next h m.
+          then-past _ (one h m) (λ receiver next h m.
+          then-past _ (one h m) (λ time next h m.
+          then-past _ (one h m) (λ kind next h m.
+          mapped-past _ (one h m)))))
+      by (suc zero) place h m = mapped-past Deliver (one h m)
+      by (suc (suc zero)) place h m = mapped-past Execute (one h m)
+      by (suc (suc (suc n))) place h m = mapped-past (λ ceiling. Advance ceiling bufferLength) (one h m)
 
-then-past : {A B : Type 0} {at end : ℕ} {p : Parsed A} (f : A → ℕ → Parsed B)
-    → Past at end p → ((a : A) (next : ℕ) → Past next end (f a next)) → Past at end (andThen p f)
-then-past {B = B} {at = at} {end = end} f (past {a = a} {next = next} l m) h = earlier (h a next)
-  where
-    earlier : {r : Parsed B} → Past next end r → Past at end r
-    earlier (past {next = place} k n) = past {next = place} (omega arith) n
-    earlier fault = fault
-then-past f fault h = fault
+  pub call-placed : (c : Call) (next : ℕ) → callAt bs at ≡ Got c next → (at < next) × (next ≤ length bs)
+  call-placed c next e = go (rw e at call-past)
+    where
+      go : Past (suc at) (length bs) (Got c next) → (at < next) × (next ≤ length bs)
+      go (past h m) = (h, m)
 
-mapped-past : {A B : Type 0} {at end : ℕ} {p : Parsed A} (f : A → B) → Past at end p → Past at end (mapped f p)
-mapped-past f (past l m) = past l m
-mapped-past f fault = fault
+  -- a call's fault is told within the input
+  pub call-fault-placed : (n place : ℕ) → callAt bs at ≡ Fault n place → place ≤ length bs
+  call-fault-placed n place e = fault-past (rw e at call-past)
 
-call-past : (bs : List ℕ) (at : ℕ) → Past at (length bs) (callAt bs at)
-unfolding callAt
-call-past bs at = then-past (callBy bs) (field-past bs 0 3 at) by
-  where
-    one : (at : ℕ) → Past at (length bs) (argument bs at)
-    one at = field-past bs 0 largest at
+-- ---- models
 
-    by : (tag at : ℕ) → Past at (length bs) (callBy bs tag at)
-    by zero at =
-        then-past _ (one at) (λ number next.
-        then-past _ (one next) (λ receiver next.
-        then-past _ (one next) (λ time next.
-        then-past _ (one next) (λ kind next.
-        mapped-past _ (one next)))))
-    by (suc zero) at = mapped-past Deliver (one at)
-    by (suc (suc zero)) at = mapped-past Execute (one at)
-    by (suc (suc (suc n))) at = mapped-past (λ ceiling. Advance ceiling bufferLength) (one at)
+-- so is a model's
+module _ (bs : List ℕ) where
+  abbrev Model-reads : {A : Type 0} → Parsed A → Type 0
+  Model-reads p = Past 0 (length bs) p
 
-pub call-placed : (bs : List ℕ) (at : ℕ) (c : Call) (next : ℕ) → callAt bs at ≡ Got c next → (at < next) × (next ≤ length bs)
-call-placed bs at c next = go (call-past bs at)
-  where
-    go : {p : Parsed Call} → Past at (length bs) p → p ≡ Got c next → (at < next) × (next ≤ length bs)
-    go (past {next = place} l m) e = let there : place ≡ next = cc in (omega arith, omega arith)
-    go fault e = let z : _≡_ {A = ℕ} 0 1 = cc in absurd (omega arith)
+  here : {A : Type 0} {a : A} {next : ℕ} → next ≤ length bs → Model-reads (Got a next)
+  here {next = next} l = past {next = next} (omega arith) l
+
+  number-past : (least most : ℕ) {at : ℕ} → at ≤ length bs → Model-reads (field bs least most at)
+  number-past least most l = more bs 0 least most (omega arith) l
+
+  effect-past : {at : ℕ} → at ≤ length bs → Model-reads (effectAt bs at)
+  unfolding effectAt
+  effect-past l = then-past (effectBy bs) (number-past 0 3 l) by
+    where
+      by : (tag place : ℕ) → 0 ≤ place → place ≤ length bs → Model-reads (effectBy bs tag place)
+      by zero place h m = here m
+      by (suc zero) place h m = mapped-past _ (number-past 0 largest m)
+      by (suc (suc zero)) place h m = mapped-past _ (number-past 0 largest m)
+      by (suc (suc (suc n))) place h m = past h m
+
+  value-past : {at : ℕ} → at ≤ length bs → Model-reads (valueAt bs at)
+  unfolding valueAt
+  value-past l = then-past (valueBy bs) (number-past 0 2 l) by
+    where
+      by : (tag place : ℕ) → 0 ≤ place → place ≤ length bs → Model-reads (valueBy bs tag place)
+      by zero place h m = mapped-past _ (number-past 0 largest m)
+      by (suc zero) place h m = past h m
+      by (suc (suc n)) place h m = past h m
+
+  tested-past : {A : Type 0} (b : Bool) {at : ℕ} {r : Parsed A} → at ≤ length bs → Model-reads r → Model-reads (inOrderAt b at r)
+  tested-past true l h = h
+  tested-past false l h = fault l
+
+  module _ (highest : ℕ) where
+    send-past : {at : ℕ} → at ≤ length bs → Model-reads (sendAt bs highest at)
+    unfolding sendAt
+    send-past l =
+        then-past _ (number-past 0 highest l) (λ receiver next h l.
+        then-past _ (number-past 1 65_535 l) (λ delay next h l.
+        then-past _ (number-past 0 7 l) (λ kind next h l.
+        then-past _ (value-past l) (λ value next h l.
+        past h l))))
+
+    sends-past : (n : ℕ) {at : ℕ} → at ≤ length bs → Model-reads (sendsAt bs highest n at)
+    unfolding sendsAt
+    sends-past zero l = here l
+    sends-past (suc n) l = then-past _ (send-past l) (λ s next h l. mapped-past _ (sends-past n l))
+
+    rule-past : (m k : ℕ) {at : ℕ} → at ≤ length bs → Model-reads (ruleAt bs highest m k at)
+    unfolding ruleAt
+    rule-past m k l =
+        then-past _ (number-past 0 7 l) (λ mode next h i.
+        tested-past (leb m mode) l (
+        then-past _ (number-past 0 7 i) (λ kind next h i.
+        tested-past (ltb m mode || leb k kind) l (
+        then-past _ (number-past 0 7 i) (λ after next h i.
+        then-past _ (effect-past i) (λ effect next h i.
+        then-past _ (number-past 0 2 i) (λ count next h i.
+        then-past _ (sends-past count i) (λ sends next h i.
+        past h i))))))))
+
+    rules-past : (m k n : ℕ) {at : ℕ} → at ≤ length bs → Model-reads (rulesAt bs highest m k n at)
+    unfolding rulesAt
+    rules-past m k zero l = here l
+    rules-past m k (suc n) l = then-past _ (rule-past m k l) (λ r next h l. mapped-past _ (rules-past (r .mode) (suc (r .kind)) n l))
+
+    setup-past : {at : ℕ} → at ≤ length bs → Model-reads (setupAt bs highest at)
+    unfolding setupAt
+    setup-past l =
+        then-past _ (number-past 0 7 l) (λ mode next h l.
+        then-past _ (number-past 0 largest l) (λ tally next h l.
+        then-past _ (number-past 0 64 l) (λ count next h l.
+        then-past _ (rules-past 0 0 count l) (λ rules next h l.
+        past h l))))
+
+    setups-past : (n : ℕ) {at : ℕ} → at ≤ length bs → Model-reads (setupsAt bs highest n at)
+    unfolding setupsAt
+    setups-past zero l = here l
+    setups-past (suc n) l = then-past _ (setup-past l) (λ u next h l. mapped-past _ (setups-past n l))
+
+  whole-past : (M : Model) {next : ℕ} → next ≤ length bs → Model-reads (whole bs M next)
+  whole-past M {next} l = go (ltb next (length bs))
+    where
+      go : (b : Bool) → Model-reads (cond b (Fault 14 next) (Got M next))
+      go true = fault l
+      go false = here l
+
+  pub model-fault-placed : (n place : ℕ) → modelIn bs ≡ Fault n place → place ≤ length bs
+  unfolding modelIn
+  model-fault-placed n place e =
+      fault-past (rw e at (then-past _ (number-past 1 8 {at = 0} (omega arith)) (λ count next h l.
+      then-past (whole bs) (setups-past (count - 1) count l) (λ M next h l. whole-past M l))))

@@ -1,11 +1,11 @@
 -- The program's loop over the calls of a run file, one turn at a time: nothing at the end, a fault's line, or a call's lines and then those of the
 -- calls after it. Each call takes a byte or more, so as many turns as there are bytes are enough, and more print no other lines.
 use mathlib.Core.Path.{_≡_, refl, sym, ap, _∙_}
-use mathlib.Core.Bool.{cond}
+use mathlib.Core.Bool.{Bool, true, false, cond}
 use mathlib.Core.List.{List, [], _++_}
 use Prim.Native.Nat.{ℕ, zero, suc, _+_, _≤_, _<_}
 use native.Mathlib.Omega.{arith}
-use borrow.Author.Tests.{le-leb, lt-leb}
+use borrow.Author.Tests.{le-leb, lt-leb, leb-false}
 use lib.Dec.{leb}
 use lib.ListN.{length}
 use Rattle.definition.specs.declared.Call.{Call}
@@ -23,20 +23,28 @@ module _ (bs : List ℕ) where
   turn-end (suc n) s at h = rw (le-leb (length bs) at h)
 
   -- any two numbers of turns that are enough print the same
-  pub enough : (n k : ℕ) (s : State) (at : ℕ) → length bs ≤ at + n → length bs ≤ at + k → callsFrom n bs s at ≡ callsFrom k bs s at
+  abbrev Same : ℕ → ℕ → Type 0
+  Same n k = (s : State) (at : ℕ) → length bs ≤ at + n → length bs ≤ at + k → callsFrom n bs s at ≡ callsFrom k bs s at
+
+  pub enough : (n k : ℕ) → Same n k
   unfolding callsFrom
   enough zero k s at h l = sym (turn-end k s at (omega arith))
   enough (suc n) zero s at h l = turn-end (suc n) s at (omega arith)
-  enough (suc n) (suc k) s at h l = ap (cond (leb (length bs) at) []) (go (callAt bs at) refl (λ t next. enough n k t next))
+  enough (suc n) (suc k) s at h l = go (leb (length bs) at) refl (λ t next. enough n k t next)
     where
-      go : (p : Parsed Call) → callAt bs at ≡ p
-          → ((t : State) (next : ℕ) → length bs ≤ next + n → length bs ≤ next + k → callsFrom n bs t next ≡ callsFrom k bs t next)
+      by : (p : Parsed Call) → callAt bs at ≡ p → at < length bs → Same n k
           → orFault callText 0 p (λ c next. callLines c (call s c) ++ callsFrom n bs (call s c .after) next)
           ≡ orFault callText 0 p (λ c next. callLines c (call s c) ++ callsFrom k bs (call s c .after) next)
-      go (Got c next) e ih =
-          let later = call-placed bs at c next e in
+      by (Got c next) e left ih =
+          let later = call-placed bs at (omega arith) c next e in
           ap (λ (l : List ℕ). callLines c (call s c) ++ l) (ih (call s c .after) next (omega arith) (omega arith))
-      go (Fault m place) e ih = refl
+      by (Fault m place) e left ih = refl
+
+      go : (b : Bool) → leb (length bs) at ≡ b → Same n k
+          → cond b [] (orFault callText 0 (callAt bs at) (λ c next. callLines c (call s c) ++ callsFrom n bs (call s c .after) next))
+          ≡ cond b [] (orFault callText 0 (callAt bs at) (λ c next. callLines c (call s c) ++ callsFrom k bs (call s c .after) next))
+      go true e ih = refl
+      go false e ih = by (callAt bs at) refl (leb-false (length bs) at e) ih
 
   -- so the turns after this one may be as many again
   turn : (n : ℕ) (s : State) (at : ℕ) → at < length bs → length bs ≤ at + n
