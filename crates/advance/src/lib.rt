@@ -37,7 +37,7 @@ pub fn advance(
     requires { ⌜ Ready model inputs outputs transit own ⌝ }
     ensures { λ r. ⌜ Commits model inputs outputs transit own buffer (Advance ceiling (length (now (buffer .entry)))) r ⌝ }
 {
-    let processes = memory::size(rule::processes(model));
+    let processes = memory::size(table::processes(model));
     let numbers = own[WHOLE][0];
     let recorded = numbers[RECORDED];
     let horizon = bound::reached(inputs, transit, own, processes, ceiling);

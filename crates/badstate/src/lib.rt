@@ -189,7 +189,7 @@ pub fn lawful(
     if own.len() != WHOLE + 1 {
         return false;
     }
-    let processes = rule::processes(model);
+    let processes = table::processes(model);
     if !lawful_whole(&own[WHOLE], transit, processes) {
         return false;
     }

@@ -1,5 +1,6 @@
 // The call Execute: the unread event of a process. It is judged first, over shared references, and nothing is written; then what was judged is
 // carried out. Both walk the rows that the event reads and read each by one function, so that what is counted is what is sent.
+use answer::Found;
 use definition::Answer;
 use definition::Saved;
 use definition::Send;
@@ -16,7 +17,6 @@ use queue::rows::NEVER;
 use queue::rows::RECEIVED;
 use queue::rows::VALUE;
 use rule::Decoded;
-use rule::Found;
 ghost use mathlib.Core.Path.{_≡_};
 ghost use mathlib.Core.List.{[], _∷_, _++_};
 ghost use Prim.Native.Nat.{_+_, _≤_, _<_};
@@ -94,7 +94,7 @@ fn sent_by(send: Send, process: u32, time: u32, ordinal: u32, tally: u32, value:
     if LAST_USABLE - time < delay {
         return nothing(1);
     }
-    let told = rule::sent_value(send, tally, value);
+    let told = effect::sent_value(send, tally, value);
     Batch {
         used: 1,
         count: 1,
@@ -159,7 +159,7 @@ fn answered(rule: Decoded, process: u32, time: u32, value: u32, w: Walk) -> Step
     ensures { λ r. ⌜ Answered rule process time value w r ⌝ }
 {
     let before = w.stand;
-    let stand = rule::after(rule, before, value);
+    let stand = effect::after(rule, before, value);
     let batch = sends(rule, process, time, w.ordinal, stand.tally, value);
     let walk = Walk {
         stand,
@@ -184,7 +184,7 @@ fn read(rules: &[[u32; 16]], process: u32, time: u32, e: [u32; 8], w: Walk) -> S
 {
     if queue::input::is_read(e, time) {
         let stand = w.stand;
-        let found = rule::find_among(rules, stand.mode, e[KIND]);
+        let found = answer::find_among(rules, stand.mode, e[KIND]);
         return match found {
             Found::Rule(rule) => answered(rule, process, time, e[VALUE], w),
             Found::Nothing => still(w),
@@ -401,13 +401,13 @@ pub fn execute(
     requires { ⌜ Ready model inputs outputs transit own ⌝ }
     ensures { λ r. ⌜ Keeps model inputs outputs transit own (Execute process) r ⌝ }
 {
-    if rule::processes(model) <= process {
+    if table::processes(model) <= process {
         return Answer::Refused(1);
     }
     let p = process as usize;
     let numbers = own[WHOLE][0];
     let mails = memory::size(numbers[MAILS]);
-    let rules = rule::rules(&model[p]);
+    let rules = table::rules(&model[p]);
     let plan = judge(rules, &inputs[p], &own[p], mails, process);
     match plan {
         Plan::No(number) => Answer::Refused(number),

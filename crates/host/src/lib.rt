@@ -61,14 +61,14 @@ pub fn outcome_of(
             answer: Stepped::Refused(BAD_STATE),
         };
     }
-    if rule::processes(model) <= process {
+    if table::processes(model) <= process {
         return Outcome {
             stand,
             answer: Stepped::Refused(BAD_ARGUMENT),
         };
     }
     Outcome {
-        stand: rule::apply(model, process as usize, stand, kind, value),
+        stand: answer::apply(model, process as usize, stand, kind, value),
         answer: Stepped::Done,
     }
 }

@@ -84,7 +84,7 @@ pub fn inject(
     ensures { λ r. ⌜ Keeps model inputs outputs transit own (Inject number receiver time kind value) r ⌝ }
 {
     let whole = own[WHOLE][0];
-    let refused = judge(whole, rule::processes(model), number, receiver, time, kind);
+    let refused = judge(whole, table::processes(model), number, receiver, time, kind);
     if 0 < refused {
         return Answer::Refused(refused);
     }

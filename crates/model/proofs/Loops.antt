@@ -6,11 +6,11 @@ use Prim.Native.Nat.{ℕ, suc, _+_}
 use native.Mathlib.Omega.{arith}
 use lib.ListN.{length}
 use Rattle.definition.specs.ModelBytes.{Parsed, Got, Fault, andThen, mapped}
-use Rattle.model.specs.declared.Fault.{Fault as Refusal}
-use Rattle.model.specs.declared.FieldRead.{FieldRead}
-use Rattle.model.specs.declared.FieldRead.the-variants.{Refused as NoField}
-use Rattle.model.specs.Accepted.{no-fault}
-use Rattle.model.specs.Reading.{fieldIn}
+use Rattle.field.specs.declared.Fault.{Fault as Refusal}
+use Rattle.field.specs.declared.FieldRead.{FieldRead}
+use Rattle.field.specs.declared.FieldRead.the-variants.{Refused as NoField}
+use Rattle.field.specs.Gives.{no-fault}
+use Rattle.field.specs.Reading.{fieldIn}
 use Rattle.model.specs.Stored.{puts, Reads}
 
 pub record Going {A B : Type 0} (put : ℕ → A → List B → List B) (p : Parsed (List A)) (before : List B) (i : ℕ) (here : Parsed (List A)) (rows : List B) : Type 0 where
@@ -43,9 +43,10 @@ module _ {A B : Type 0} (put : ℕ → A → List B → List B) where
       go (Fault n at) h = record { answer = g .answer ∙ rw h; kept = t ∙ g .kept; stored = λ m o d. no-fault (sym h ∙ g .stored m o d .1) }
 
   pub stopped : (p : Parsed (List A)) (before : List B) (i : ℕ) (here : Parsed (List A)) (rows : List B) → Going put p before i here rows
-      → (f : Refusal) → here ≡ Fault (f .number) (f .at) → (after : List B) → length after ≡ length rows → Reads length (puts put 0) p before after (NoField f)
-  stopped p before i here rows g f e after k =
-      record { answer = sym (g .answer ∙ rw e); kept = k ∙ g .kept; stored = λ m o d. no-fault (sym e ∙ g .stored m o d .1) }
+      → {r : FieldRead} {f : Refusal} → r ≡ NoField f → here ≡ Fault (f .number) (f .at) → (after : List B) → length after ≡ length rows
+      → Reads length (puts put 0) p before after r
+  stopped p before i here rows g t e after k =
+      record { answer = ap fieldIn t ∙ sym (g .answer ∙ rw e); kept = k ∙ g .kept; stored = λ m o d. no-fault (sym e ∙ g .stored m o d .1) }
 
   pub ended : (p : Parsed (List A)) (before : List B) (i : ℕ) (here : Parsed (List A)) (rows : List B) (r : FieldRead)
       → Going put p before i here rows → (next : ℕ) → here ≡ Got [] next → fieldIn r ≡ Got i next → Reads length (puts put 0) p before rows r

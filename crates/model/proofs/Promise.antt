@@ -7,13 +7,14 @@ use native.Mathlib.Omega.{arith}
 use lib.ListN.{length}
 use Rattle.definition.specs.Model.{Model}
 use Rattle.definition.specs.ModelBytes.{Got, Fault, modelIn}
-use Rattle.model.specs.declared.Fault.{Fault as Refusal}
-use Rattle.model.specs.declared.FieldRead.{FieldRead}
-use Rattle.model.specs.declared.FieldRead.the-variants.{Got as GotField}
+use Rattle.field.specs.declared.Fault.{Fault as Refusal}
+use Rattle.field.specs.declared.FieldRead.{FieldRead}
+use Rattle.field.specs.declared.FieldRead.the-variants.{Got as GotField}
 use Rattle.model.specs.declared.ModelRead.the-variants.{Accepted, Refused}
-use Rattle.model.specs.Accepted.{no-fault, accepted}
+use Rattle.field.specs.Gives.{no-fault}
+use Rattle.model.specs.Accepted.{accepted}
 use Rattle.model.specs.Held.{held}
-use Rattle.model.specs.Reading.{fieldIn}
+use Rattle.field.specs.Reading.{fieldIn}
 use Rattle.model.specs.Stored.{hasRoom, modelFor, putModel, Reads, Promise}
 use Rattle.model.proofs.Steps.{made}
 

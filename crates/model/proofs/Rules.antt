@@ -9,11 +9,13 @@ use Rattle.definition.specs.Model.{Rule, Setup}
 use Rattle.definition.specs.ModelBytes.{Parsed, Got, Fault, andThen, mapped, ruleAt, rulesAt, setupAt, setupsAt}
 use Rattle.rule.specs.declared.Decoded.{Decoded}
 use Rattle.rule.specs.Rows.{encoded}
-use Rattle.model.specs.declared.FieldRead.{FieldRead}
-use Rattle.model.specs.declared.FieldRead.the-variants.{Got as GotField}
-use Rattle.model.specs.Accepted.{given, rule-in}
-use Rattle.model.specs.Reading.{fieldIn}
-use Rattle.model.specs.Stored.{rowed, putRule, putProcess, Reads}
+use Rattle.field.specs.declared.FieldRead.{FieldRead}
+use Rattle.field.specs.declared.FieldRead.the-variants.{Got as GotField}
+use Rattle.field.specs.Gives.{given}
+use Rattle.rulebytes.specs.Accepted.{rule-in}
+use Rattle.field.specs.Reading.{fieldIn}
+use Rattle.rulebytes.specs.Reading.{rowed}
+use Rattle.model.specs.Stored.{putRule, putProcess, Reads}
 use Rattle.model.proofs.Steps.{made, made-fault}
 use Rattle.model.proofs.Loops.{Going, start, turn}
 

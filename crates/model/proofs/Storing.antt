@@ -7,23 +7,23 @@ use lib.ListN.{length, getD, set, length-set}
 use lib.Seq.{set-out}
 use Rattle.definition.specs.Model.{Rule, Setup, Model}
 use Rattle.definition.specs.ModelBytes.{Parsed, Got, Fault, andThen, whole}
-use Rattle.model.specs.declared.Fault.{Fault as Refusal}
-use Rattle.model.specs.declared.FieldRead.{FieldRead}
-use Rattle.model.specs.declared.FieldRead.the-variants.{Got as GotField, Refused as NoField}
-use Rattle.model.specs.Accepted.{no-fault}
-use Rattle.model.specs.Reading.{fieldIn, refusal}
+use Rattle.field.specs.declared.Fault.{Fault as Refusal}
+use Rattle.field.specs.declared.FieldRead.{FieldRead}
+use Rattle.field.specs.declared.FieldRead.the-variants.{Got as GotField, Refused as NoField}
+use Rattle.field.specs.Gives.{no-fault}
+use Rattle.field.specs.Reading.{fieldIn, read}
 use Rattle.model.specs.Stored.{puts, putRule, headed, putSetup, putProcess, putModel, Reads}
-use Rattle.model.proofs.Steps.{leaves, made, made-fault}
+use Rattle.model.proofs.Steps.{made, made-fault}
 
 -- a refusal, whatever the rows hold by then
-pub broken : {A B : Type 0} {size : A → ℕ} {put : A → List B → List B} {p : Parsed A} {before after : List B} (f : Refusal)
-    → p ≡ Fault (f .number) (f .at) → length after ≡ length before → Reads size put p before after (NoField f)
-broken f e k = record { answer = sym (rw e); kept = k; stored = λ a next d. no-fault (sym e ∙ d) }
+pub broken : {A B : Type 0} {size : A → ℕ} {put : A → List B → List B} {p : Parsed A} {before after : List B} {r : FieldRead} {f : Refusal}
+    → r ≡ NoField f → p ≡ Fault (f .number) (f .at) → length after ≡ length before → Reads size put p before after r
+broken t e k = record { answer = ap fieldIn t ∙ sym (rw e); kept = k; stored = λ a next d. no-fault (sym e ∙ d) }
 
 -- an answer that refuses says that nothing was read
-pub nothing-read : {A B : Type 0} {size : A → ℕ} {put : A → List B → List B} {p : Parsed A} {before after : List B} {r : FieldRead} {f g : Refusal}
-    → Reads size put p before after r → r ≡ NoField g → f ≡ refusal (fieldIn r) → p ≡ Fault (f .number) (f .at)
-nothing-read {size = size} {p = p} d e h = made-fault size p (leaves fieldIn (d .answer) e refl h)
+pub nothing-read : {A B : Type 0} {size : A → ℕ} {put : A → List B → List B} {p : Parsed A} {before after : List B} {r : FieldRead} {f : Refusal}
+    → Reads size put p before after r → r ≡ NoField f → p ≡ Fault (f .number) (f .at)
+nothing-read {size = size} {p = p} d e = made-fault size p (read fieldIn (d .answer) e)
 
 module _ (mode tally n : ℕ) (p : Parsed Setup) (q : Parsed (List Rule)) (before middle after : List (List ℕ)) (r : FieldRead) (v next : ℕ)
     (g : Reads length (puts putRule 0) q before middle r) (s : after ≡ set middle 0 (headed v mode tally n))

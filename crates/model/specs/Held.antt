@@ -1,6 +1,6 @@
 -- The rows that the reader leaves hold the model that it read, and are lawful: the law that the promise of `read` cites.
 use mathlib.Core.Path.{_≡_, refl, sym, ap, ap₂, _∙_}
-use mathlib.Core.Bool.{Bool, true, false, _&&_}
+use mathlib.Core.Bool.{Bool, true, false}
 use mathlib.Core.List.{List, [], _∷_, _++_, map}
 use Prim.Native.Nat.{ℕ, zero, suc, _+_, _≤_, _<_}
 use native.Mathlib.Omega.{arith}
@@ -15,17 +15,15 @@ use Rattle.definition.specs.declared.Value.the-variants.{Fixed, Tally, Read}
 use Rattle.definition.specs.declared.Send.{Send}
 use Rattle.definition.specs.Lists.{all}
 use Rattle.definition.specs.Model.{Rule, Setup, Model, okEffect, okStand, okRule, okSetup, okModel}
+use Rattle.laws.specs.Places.{and-true}
 use Rattle.rule.specs.Rows.{decoded, encoded, effectTag, valueTag, ruleOf, heading, setupOf, processesOf, modelOf, shapedRule, shapedSetup, shapedModel, lawfulModel}
 use Rattle.rule.specs.Laws.{decoded-encoded}
-use Rattle.model.specs.Stored.{rowed, puts, putRule, headed, putSetup, putProcess, putModel, isFull, hasRoom}
-
-both : (a : Bool) {b : Bool} → a && b ≡ true → (a ≡ true) × (b ≡ true)
-both true e = (refl, e)
-both false e = let z : _≡_ {A = ℕ} 0 1 = cc in absurd (omega arith)
+use Rattle.rulebytes.specs.Reading.{rowed}
+use Rattle.model.specs.Stored.{puts, putRule, headed, putSetup, putProcess, putModel, isFull, hasRoom}
 
 every : {A : Type 0} (f : A → Bool) (x : A) (l : List A) → all f (x ∷ l) ≡ true → (f x ≡ true) × (all f l ≡ true)
 unfolding all
-every f x l h = both (f x) h
+every f x l h = and-true (f x) (all f l) h
 
 -- ---- a rule
 
@@ -45,7 +43,7 @@ rule-back : (n : ℕ) (r : Rule) → okRule n r ≡ true → (ruleOf (decoded (r
 unfolding okRule row
 rule-back n r h =
     let few : leb (length (r .sends)) 2 ≡ true =
-    both (leb (length (r .sends)) 2) (both (okEffect (r .effect)) (both (leb (r .next) 7) (both (leb (r .kind) 7) (both (leb (r .mode) 7) h .1) .1) .1) .1) .0 in (
+    and-true (leb (length (r .sends)) 2) _ (and-true (okEffect (r .effect)) _ (and-true (leb (r .next) 7) _ (and-true (leb (r .kind) 7) _ (and-true (leb (r .mode) 7) _ h .1) .1) .1) .1) .0 in (
       ap ruleOf (decoded-encoded (rowed r)) ∙ sends-back r (leb-true _ _ few),
       rw (effect-small (r .effect), few, value-small (rowed r .first .value), value-small (rowed r .second .value)),
     )
@@ -91,9 +89,9 @@ setup-back : (k n : ℕ) (u : Setup) (rows : List (List ℕ)) → okSetup k u �
     → (setupOf (putSetup n u rows) ≡ u) × (shapedSetup (putSetup n u rows) ≡ true) × (heading (putSetup n u rows) 3 ≡ n)
 unfolding okSetup shapedSetup
 setup-back k n u rows h l =
-    let fields = both (leb (length (u .rules)) 64) (both (okStand (u .first)) h .1) in
+    let fields = and-true (leb (length (u .rules)) 64) _ (and-true (okStand (u .first)) _ h .1) in
     let few : length (u .rules) ≤ 64 = leb-true _ _ (fields .0) in
-    let back = rules-back k (u .rules) (both (all (okRule k) (u .rules)) (fields .1) .0) in
+    let back = rules-back k (u .rules) (and-true (all (okRule k) (u .rules)) _ (fields .1) .0) in
     let e = setup-rows n u rows (omega arith) in
     let mine : take (length (u .rules)) (map row (u .rules) ++ drop (suc (length (u .rules))) rows) ≡ map row (u .rules) =
     take-at (map row (u .rules)) (drop (suc (length (u .rules))) rows) (length (u .rules)) (length-map (u .rules) row) in
@@ -153,10 +151,10 @@ held [] m r o = let no : false ≡ true = o in let z : _≡_ {A = ℕ} 0 1 = cc 
 held (u ∷ us) m r o =
     let M : Model = u ∷ us in
     let n : ℕ = length M in
-    let eight : length m ≡ 8 = eqb-true _ _ (both (all isFull m) r .1) in
-    let few : n ≤ 8 = leb-true _ _ (both (leb n 8) (both (leb 1 n) o .1) .0) in
-    let oks : all (okSetup n) M ≡ true = both (leb n 8) (both (leb 1 n) o .1) .1 in
-    let f : (i : ℕ) → i < length m → length (getD m i []) ≡ 65 = full-at m (both (all isFull m) r .0) in
+    let eight : length m ≡ 8 = eqb-true _ _ (and-true (all isFull m) _ r .1) in
+    let few : n ≤ 8 = leb-true _ _ (and-true (leb n 8) _ (and-true (leb 1 n) _ o .1) .0) in
+    let oks : all (okSetup n) M ≡ true = and-true (leb n 8) _ (and-true (leb 1 n) _ o .1) .1 in
+    let f : (i : ℕ) → i < length m → length (getD m i []) ≡ 65 = full-at m (and-true (all isFull m) _ r .0) in
     let back = models-back n n 0 M m (omega arith) (λ i l b. f i b) oks in
     let count : processesOf (putModel M m) ≡ n =
     ap (λ (x : List (List ℕ)). heading x 3) (first-is n 0 u us m (omega arith)) ∙ setup-back n n u (getD m 0 []) (every (okSetup n) u us oks .0) (f 0 (omega arith)) .2 in

@@ -1,4 +1,4 @@
-pub mod Reading
 pub mod Stored
 pub mod Accepted
 pub mod Held
+pub mod ReadBack

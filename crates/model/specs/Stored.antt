@@ -6,49 +6,15 @@ use mathlib.Core.List.{List, [], _∷_}
 use Prim.Native.Nat.{ℕ, suc}
 use lib.Dec.{eqb}
 use lib.ListN.{length, getD, set}
-use Rattle.definition.specs.declared.Value.the-variants.{Fixed}
-use Rattle.definition.specs.declared.Send.{Send}
 use Rattle.definition.specs.Lists.{all}
 use Rattle.definition.specs.Model.{Rule, Setup, Model}
-use Rattle.definition.specs.ModelBytes.{Parsed, Got, Fault, andThen, mapped, field, effectAt, sendsAt, modelIn}
-use Rattle.rule.specs.declared.Decoded.{Decoded}
+use Rattle.definition.specs.ModelBytes.{Parsed, Got, Fault, mapped, modelIn}
 use Rattle.rule.specs.Rows.{encoded, modelOf, lawfulModel}
-use Rattle.model.specs.declared.FieldRead.{FieldRead}
+use Rattle.field.specs.declared.FieldRead.{FieldRead}
+use Rattle.field.specs.Reading.{fieldIn}
+use Rattle.rulebytes.specs.Reading.{rowed}
 use Rattle.model.specs.declared.ModelRead.{ModelRead}
 use Rattle.model.specs.declared.ModelRead.the-variants.{Accepted, Refused}
-use Rattle.model.specs.Reading.{fieldIn}
-
--- ---- a rule
-
--- a send that is not there
-abbrev pub noSend : Send
-noSend = record { receiver = 0; delay = 0; kind = 0; value = Fixed 0 }
-
-abbrev pub rowed : Rule → Decoded
-rowed r =
-    record {
-      mode = r .mode;
-      kind = r .kind;
-      next = r .next;
-      effect = r .effect;
-      count = length (r .sends);
-      first = getD (r .sends) 0 noSend;
-      second = getD (r .sends) 1 noSend;
-    }
-
--- the rule with these sends
-abbrev pub sending : Decoded → List Send → Rule
-sending d ss = record { mode = d .mode; kind = d .kind; next = d .next; effect = d .effect; sends = ss }
-
--- what stands after a rule's mode and kind
-unfoldable pub ruleAfter : List ℕ → ℕ → ℕ → ℕ → ℕ → Parsed Rule
-unfolding effectAt sendsAt
-ruleAfter bs highest mode kind at =
-    andThen (field bs 0 7 at) (λ after next.
-    andThen (effectAt bs next) (λ effect next.
-    andThen (field bs 0 2 next) (λ count next.
-    andThen (sendsAt bs highest count next) (λ sends next.
-    Got (record { mode = mode; kind = kind; next = after; effect = effect; sends = sends }) next))))
 
 -- ---- rows
 

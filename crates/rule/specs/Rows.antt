@@ -16,8 +16,6 @@ use Rattle.definition.specs.declared.Stand.{Stand}
 use Rattle.definition.specs.Lists.{all}
 use Rattle.definition.specs.Model.{Rule, Setup, Model, okModel, effectOn}
 use Rattle.rule.specs.declared.Decoded.{Decoded}
-use Rattle.rule.specs.declared.Found.{Found}
-use Rattle.rule.specs.declared.Found.the-variants.{Rule as Match, Nothing}
 
 -- ---- a row and the rule that it says
 
@@ -110,11 +108,6 @@ unfoldable pub modelOf : List (List (List ℕ)) → Model
 modelOf m = map setupOf (take (processesOf m) m)
 
 -- ---- one message
-
--- what a search found, as the definition says it
-abbrev pub foundOf : Found → Option Rule
-foundOf (Match d) = some (ruleOf d)
-foundOf Nothing = none
 
 -- where a process stands after a message, by the rule that was found; `stands` of Laws says that `readBy` of the definition leaves it there
 abbrev pub standAfter : Option Rule → Stand → ℕ → Stand

@@ -1,22 +1,19 @@
--- Single tests of the check of a model, and what is left of it after each row and each process: what the whole said.
+-- Single tests of the check of a model, and what is left of it after each process: what the whole said.
 use mathlib.Core.Path.{_≡_, refl, sym, _∙_}
 use mathlib.Core.Bool.{Bool, true, false, _&&_}
 use mathlib.Core.List.{List, [], _∷_}
-use Prim.Native.Nat.{ℕ, zero, suc, _+_, _≤_, _<_, compare, Ordering, Ordering·lt, Ordering·eq, Ordering·gt}
+use Prim.Native.Nat.{ℕ, zero, suc, _+_, _≤_, _<_}
 use native.Mathlib.Omega.{arith}
 use native.Mathlib.Numerals.{add-one}
-use lib.Dec.{leb, ltb}
+use lib.Dec.{leb}
 use lib.ListN.{length, getD, take, drop, length-take, drop-of-length-le}
 use lib.Seq.{take-nil, drop-cons, getD-take}
 use borrow.Author.Tests.{le-leb, lt-leb, lt-ltb, le-ltb}
 use Rattle.definition.specs.declared.Send.{Send}
-use Rattle.definition.specs.Lists.{all, orElse, compareKeys, isLess}
+use Rattle.definition.specs.Lists.{all}
 use Rattle.definition.specs.Model.{okEffect, okValue, okSend, okRule}
-use Rattle.laws.specs.Order.{compare-lt, compare-eq, compare-gt, lt-compare, gt-compare, eq-compare}
 use Rattle.rule.specs.declared.Decoded.{Decoded}
 use Rattle.rule.specs.Rows.{ruleOf, shapedRule}
-use Rattle.rule.proofs.Search.{next-row}
-use Rattle.rulecheck.specs.Check.{okRow, ascends, okRows}
 
 -- ---- one send
 
@@ -110,56 +107,6 @@ module _ (n : ℕ) (s t : Send) where
       and-right : (x : Bool) → x && true ≡ x
       and-right true = refl
       and-right false = refl
-
--- ---- the order of two rules
-
-module _ (a c b d : ℕ) where
-  pub before-mode : a < b → true ≡ isLess (compareKeys (a ∷ c ∷ []) (b ∷ d ∷ []))
-  unfolding compareKeys
-  before-mode h = rw (lt-compare a b h)
-
-  pub before-kind : a ≡ b → ltb c d ≡ isLess (compareKeys (a ∷ c ∷ []) (b ∷ d ∷ []))
-  unfolding compareKeys
-  before-kind h = rw (eq-compare a b h) (go (compare c d) refl)
-    where
-      go : (o : Ordering) → compare c d ≡ o → ltb c d ≡ isLess (orElse o Ordering·eq)
-      go Ordering·lt e = lt-ltb c d (compare-lt c d e)
-      go Ordering·eq e = le-ltb c d (omega (arith, compare-eq c d e))
-      go Ordering·gt e = le-ltb c d (omega (arith, compare-gt c d e))
-
-  pub before-no : b ≤ a → (a ≡ b → ⊥) → false ≡ isLess (compareKeys (a ∷ c ∷ []) (b ∷ d ∷ []))
-  unfolding compareKeys
-  before-no h ne = rw (gt-compare a b (omega arith))
-
--- ---- the rules of a process, from i on
-
-module _ (l : List (List ℕ)) (i : ℕ) (h : i < length l) where
-  module _ (n : ℕ) where
-    rows-step : okRows n (drop i l) ≡ okRow n (getD l i []) && (ascends (drop i l) && okRows n (drop (i + 1) l))
-    unfolding okRows
-    rows-step = rw (next-row l i h)
-
-    pub row-wrong : okRow n (getD l i []) ≡ false → okRows n (drop i l) ≡ false
-    row-wrong e = rows-step ∙ rw e
-
-    pub row-unordered : okRow n (getD l i []) ≡ true → ascends (drop i l) ≡ false → okRows n (drop i l) ≡ false
-    row-unordered e f = rows-step ∙ rw (e, f)
-
-    pub row-right : okRow n (getD l i []) ≡ true → ascends (drop i l) ≡ true → okRows n (drop i l) ≡ okRows n (drop (i + 1) l)
-    row-right e f = rows-step ∙ rw (e, f)
-
-  pub ascends-last : length l ≤ i + 1 → true ≡ ascends (drop i l)
-  unfolding ascends
-  ascends-last g = rw (next-row l i h, drop-of-length-le l g)
-
-  pub ascends-next : i + 1 < length l →
-      isLess (compareKeys (getD (getD l i []) 0 0 ∷ getD (getD l i []) 1 0 ∷ []) (getD (getD l (i + 1) []) 0 0 ∷ getD (getD l (i + 1) []) 1 0 ∷ [])) ≡ ascends (drop i l)
-  unfolding ascends
-  ascends-next g = rw (next-row l i h, drop-cons l (i + 1) [] g)
-
-pub rows-done : (n : ℕ) (l : List (List ℕ)) (i : ℕ) → length l ≤ i → okRows n (drop i l) ≡ true
-unfolding okRows
-rows-done n l i h = rw (drop-of-length-le l h)
 
 -- ---- the first n processes of a model, from p on
 

@@ -9,50 +9,64 @@ use lib.ListN.{length, take, length-map, length-take, length-drop}
 use borrow.Author.Tests.{le-leb, lt-leb, eq-eqb, ne-eqb}
 use Rattle.definition.specs.Lists.{all, inOrder, isLess, compare}
 use Rattle.definition.specs.Model.{ruleKey, okRule, okSetup, okModel}
+use Rattle.laws.specs.Walks.{beforeNext, walked}
 use Rattle.rule.specs.Rows.{ruleAt, heading, ruleRows, setupOf, processesOf, modelOf, shapedRule, shapedSetup, shapedModel, lawfulModel}
 use Rattle.rule.specs.Laws.{and-false, model-length}
 
 abbrev pub okRow : ℕ → List ℕ → Bool
 okRow n r = shapedRule r && okRule n (ruleAt r)
 
--- the first row stands before the next, where there is one
-unfoldable pub ascends : List (List ℕ) → Bool
-ascends [] = true
-ascends (x ∷ []) = true
-ascends (x ∷ y ∷ l) = isLess (compare ruleKey (ruleAt x) (ruleAt y))
+-- a walk over the rows as they stand (crate `laws`): each passes the test, and stands before the next by mode, then kind
+abbrev pub itself : List ℕ → List ℕ
+itself r = r
 
-unfoldable pub okRows : ℕ → List (List ℕ) → Bool
-okRows n [] = true
-okRows n (x ∷ l) = okRow n x && (ascends (x ∷ l) && okRows n l)
+abbrev pub rowKey : List ℕ → List ℕ
+rowKey r = ruleKey (ruleAt r)
+
+abbrev pub ascends : List (List ℕ) → Bool
+ascends l = beforeNext rowKey (map itself l)
+
+abbrev pub okRows : ℕ → List (List ℕ) → Bool
+okRows n l = walked (okRow n) rowKey (map itself l)
 
 abbrev pub okProcess : ℕ → List (List ℕ) → Bool
 okProcess n rows = shapedSetup rows && okSetup n (setupOf rows)
 
+-- ---- a test of all, in parts
+
+module _ {A : Type 0} where
+  all-and : (f g : A → Bool) (l : List A) → all f l && all g l ≡ all (λ x. f x && g x) l
+  unfolding all
+  all-and f g [] = refl
+  all-and f g (x ∷ l) = and-swap (f x) (all f l) (g x) (all g l) ∙ ap (λ (b : Bool). (f x && g x) && b) (all-and f g l)
+    where
+      and-swap : (a b c d : Bool) → (a && b) && (c && d) ≡ (a && c) && (b && d)
+      and-swap true true c d = refl
+      and-swap true false true d = refl
+      and-swap true false false d = refl
+      and-swap false b c d = refl
+
+  all-map : {B : Type 0} (f : B → Bool) (g : A → B) (l : List A) → all f (map g l) ≡ all (λ x. f (g x)) l
+  unfolding all
+  all-map f g [] = refl
+  all-map f g (x ∷ l) = ap (λ (b : Bool). f (g x) && b) (all-map f g l)
+
 -- ---- the rows of one process
 
-order-step : (x : List ℕ) (l : List (List ℕ)) → inOrder ruleKey (map ruleAt (x ∷ l)) ≡ ascends (x ∷ l) && inOrder ruleKey (map ruleAt l)
-unfolding ascends inOrder
-order-step x [] = refl
-order-step x (y ∷ l) = refl
+order-said : (l : List (List ℕ)) → inOrder rowKey (map itself l) ≡ inOrder ruleKey (map ruleAt l)
+unfolding inOrder
+order-said [] = refl
+order-said (x ∷ []) = refl
+order-said (x ∷ y ∷ l) = ap (λ (b : Bool). isLess (compare ruleKey (ruleAt x) (ruleAt y)) && b) (order-said (y ∷ l))
 
-pub rows-are : (n : ℕ) (l : List (List ℕ)) → okRows n l ≡ all shapedRule l && (all (okRule n) (map ruleAt l) && inOrder ruleKey (map ruleAt l))
-unfolding okRows all inOrder
-rows-are n [] = refl
-rows-are n (x ∷ l) =
-    rw (order-step x l, rows-are n l)
-    (regroup (shapedRule x) (okRule n (ruleAt x)) (ascends (x ∷ l)) (all shapedRule l) (all (okRule n) (map ruleAt l)) (inOrder ruleKey (map ruleAt l)))
+rows-are : (n : ℕ) (l : List (List ℕ)) → okRows n l ≡ all shapedRule l && (all (okRule n) (map ruleAt l) && inOrder ruleKey (map ruleAt l))
+rows-are n l =
+    rw (all-map (okRow n) itself l, ← all-and shapedRule (λ x. okRule n (ruleAt x)) l, ← all-map (okRule n) ruleAt l, order-said l)
+    (grouped (all shapedRule l) (all (okRule n) (map ruleAt l)) (inOrder ruleKey (map ruleAt l)))
   where
-    regroup : (s o a t p q : Bool) → (s && o) && (a && (t && (p && q))) ≡ (s && t) && ((o && p) && (a && q))
-    regroup true true true true true q = refl
-    regroup true true true true false q = refl
-    regroup true true true false true q = refl
-    regroup true true true false false q = refl
-    regroup true true false true true q = refl
-    regroup true true false true false q = refl
-    regroup true true false false p q = refl
-    regroup true false a true p q = refl
-    regroup true false a false p q = refl
-    regroup false o a t p q = refl
+    grouped : (a b c : Bool) → (a && b) && c ≡ a && (b && c)
+    grouped true b c = refl
+    grouped false b c = refl
 
 module _ (n : ℕ) (rows : List (List ℕ)) where
   pub process-short : (length rows ≡ 65 → ⊥) → false ≡ okProcess n rows
@@ -82,23 +96,6 @@ module _ (n : ℕ) (rows : List (List ℕ)) where
         ∙ rw (eq-eqb (length rows) 65 long, le-leb (heading rows 0) 64 c, le-leb (heading rows 1) 7 m, le-leb (heading rows 2) 4_294_967_295 t, le-leb (length (map ruleAt (ruleRows rows))) 64 few)
 
 -- ---- the whole model
-
-module _ {A : Type 0} where
-  all-and : (f g : A → Bool) (l : List A) → all f l && all g l ≡ all (λ x. f x && g x) l
-  unfolding all
-  all-and f g [] = refl
-  all-and f g (x ∷ l) = and-swap (f x) (all f l) (g x) (all g l) ∙ ap (λ (b : Bool). (f x && g x) && b) (all-and f g l)
-    where
-      and-swap : (a b c d : Bool) → (a && b) && (c && d) ≡ (a && c) && (b && d)
-      and-swap true true c d = refl
-      and-swap true false true d = refl
-      and-swap true false false d = refl
-      and-swap false b c d = refl
-
-  all-map : {B : Type 0} (f : B → Bool) (g : A → B) (l : List A) → all f (map g l) ≡ all (λ x. f (g x)) l
-  unfolding all
-  all-map f g [] = refl
-  all-map f g (x ∷ l) = ap (λ (b : Bool). f (g x) && b) (all-map f g l)
 
 module _ (m : List (List (List ℕ))) where
   pub lawful-short : (length m ≡ 8 → ⊥) → false ≡ lawfulModel m

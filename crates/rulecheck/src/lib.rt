@@ -184,17 +184,17 @@ fn ok_process(rows: &[[u32; 16]], processes: u32) -> bool
     if rows.len() != 65 {
         return false;
     }
-    if 64 < rule::count(rows) {
+    if 64 < table::count(rows) {
         return false;
     }
-    let stand = rule::first(rows);
+    let stand = table::first(rows);
     if 7 < stand.mode {
         return false;
     }
     if LARGEST < stand.tally {
         return false;
     }
-    ok_rules(rule::rules(rows), processes)
+    ok_rules(table::rules(rows), processes)
 }
 
 // Each of so many processes.
@@ -220,7 +220,7 @@ pub fn lawful(model: &[[[u32; 16]; 65]]) -> bool
     if model.len() != 8 {
         return false;
     }
-    let count = rule::processes(model);
+    let count = table::processes(model);
     if count < 1 {
         return false;
     }

@@ -1,4 +1,4 @@
--- Each test that refuses is a case of the promise; where none does, `rule::apply` stands where the definition's step does.
+-- Each test that refuses is a case of the promise; where none does, `answer::apply` stands where the definition's step does.
 use mathlib.Core.Path.{sym, _∙_}
 use native.Mathlib.Omega.{arith}
 use borrow.Author.Needs.{needs}

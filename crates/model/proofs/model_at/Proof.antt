@@ -1,10 +1,10 @@
--- `model::model_at` meets its contract: the process count is in its range, and what is left after the last process decides.
+-- The process count is in its range, and what is left after the last process decides.
 use mathlib.Core.Path.{refl}
-use Rattle.model.proofs.Steps.{read, leaves}
-use Rattle.model.proofs.Storing.{broken, nothing-read, left-over, model-stored}
 use Rattle.definition.specs.ModelBytes.{modelIn}
-use Rattle.model.specs.Reading.{fieldIn}
-use Rattle.model.specs.Accepted.{in-range, process-count}
+use Rattle.field.specs.Gives.{in-range}
+use Rattle.field.specs.Reading.{fieldIn, read}
+use Rattle.model.specs.Accepted.{process-count}
+use Rattle.model.proofs.Storing.{broken, nothing-read, left-over, model-stored}
 use borrow.Author.Needs.{needs}
 use Rattle.model.proofs.model_at.Statement.{statement}
 use Rattle.model.proofs.model_at.Tie as tie
@@ -18,12 +18,9 @@ enum-known-answer c = search needs
 enum-told : tie.Need-enum-told
 enum-told c = search needs
 
-field-fault-requires : tie.Need-field-fault-requires
-field-fault-requires c κs = search needs
-
 returns : tie.Need-returns
 unfolding modelIn
-returns c = broken (c .field-fault .result) (rw (leaves fieldIn (c .before .before .before .field .ensures) (c .before .enum-told .given .1) refl (c .field-fault .ensures))) refl
+returns c = broken (c .enum-told .given .1) (rw (read fieldIn (c .before .before .field .ensures) (c .enum-told .given .1))) refl
 
 processes-at-requires : tie.Need-processes-at-requires
 processes-at-requires c κs = in-range _ 1 8 _ (read fieldIn (c .before .before .before .before .field .ensures) (c .before .before .answer .given .1)) .0
@@ -34,22 +31,19 @@ enum-known-answer-2 c = search needs
 enum-told-2 : tie.Need-enum-told-2
 enum-told-2 c = search needs
 
-field-fault-requires-2 : tie.Need-field-fault-requires-2
-field-fault-requires-2 c κs = search needs
-
 same-length : tie.Need-same-length
-same-length c = c .before .before .before .before .processes-at .ensures .kept
+same-length c = c .before .before .before .processes-at .ensures .kept
 
 returns-2 : tie.Need-returns-2
 unfolding modelIn
-returns-2 c = broken (c .field-fault2 .result) (rw (read fieldIn (c .before .before .before .before .before .before .before .before .before .field .ensures) (c .before .before .before .before .before .before .before .answer .given .1), nothing-read (c .before .before .before .before .processes-at .ensures) (c .before .enum-told2 .given .1) (c .field-fault2 .ensures))) (c .before .before .before .before .processes-at .ensures .kept)
+returns-2 c = broken (c .enum-told2 .given .1) (rw (read fieldIn (c .before .before .before .before .before .before .before .before .field .ensures) (c .before .before .before .before .before .before .answer .given .1), nothing-read (c .before .before .before .processes-at .ensures) (c .enum-told2 .given .1))) (c .before .before .before .processes-at .ensures .kept)
 
 same-length-2 : tie.Need-same-length-2
 same-length-2 c = c .before .before .before .before .before .processes-at .ensures .kept
 
 returns-3 : tie.Need-returns-3
 unfolding modelIn
-returns-3 c = broken (record { number = 14; at = c .before .before .answer2 .given .0 .1 .0 }) (rw (read fieldIn (c .before .before .before .before .before .before .before .before .before .before .field .ensures) (c .before .before .before .before .before .before .before .before .answer .given .1)) (left-over (c .before .before .before .before .before .before .before .before .before .before .before .before .args .bytes .now) (c .before .before .before .before .before .processes-at .ensures) (c .before .before .answer2 .given .1) (c .if1 .taken))) (c .before .before .before .before .before .processes-at .ensures .kept)
+returns-3 c = broken refl (rw (read fieldIn (c .before .before .before .before .before .before .before .before .before .before .field .ensures) (c .before .before .before .before .before .before .before .before .answer .given .1)) (left-over (c .before .before .before .before .before .before .before .before .before .before .before .before .args .bytes .now) (c .before .before .before .before .before .processes-at .ensures) (c .before .before .answer2 .given .1) (c .if1 .taken))) (c .before .before .before .before .before .processes-at .ensures .kept)
 
 same-length-3 : tie.Need-same-length-3
 same-length-3 c = c .before .before .before .before .before .processes-at .ensures .kept
@@ -65,12 +59,10 @@ model-at-spec =
     field-requires
     enum-known-answer
     enum-told
-    field-fault-requires
     returns
     processes-at-requires
     enum-known-answer-2
     enum-told-2
-    field-fault-requires-2
     same-length
     returns-2
     same-length-2

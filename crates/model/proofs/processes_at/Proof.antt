@@ -1,12 +1,10 @@
--- `model::processes_at` meets its contract. The invariant: so many processes are done, and what is left to read from here gives the rest. The
--- measure is the number of processes that are left.
+-- The invariant: so many processes are done, and what is left to read from here gives the rest. The measure is the number of processes that are left.
 use mathlib.Core.Path.{refl, _∙_}
 use Prim.Native.Nat.{_≤_, _-_}
 use native.Mathlib.Omega.{arith}
 use Rattle.definition.specs.ModelBytes.{setupsAt}
-use Rattle.model.specs.Reading.{fieldIn}
+use Rattle.field.specs.Reading.{fieldIn, read}
 use Rattle.model.specs.Stored.{putProcess}
-use Rattle.model.proofs.Steps.{leaves}
 use Rattle.model.proofs.Loops.{Going, stopped, ended}
 use Rattle.model.proofs.Rules.{setups-start, setups-fault, setups-turn, setups-end}
 use borrow.Author.Needs.{needs}
@@ -34,14 +32,11 @@ enum-known-answer c = search needs
 enum-told : tie.Need-enum-told Inv-loop μ-loop
 enum-told c = search needs
 
-field-fault-requires : tie.Need-field-fault-requires Inv-loop μ-loop
-field-fault-requires c κs = search needs
-
 same-length : tie.Need-same-length Inv-loop μ-loop
-same-length c = c .before .before .before .before .process-at .ensures .kept ∙ c .before .before .before .before .before .before .before .before .loop .inv .1 .kept
+same-length c = c .before .before .before .process-at .ensures .kept ∙ c .before .before .before .before .before .before .before .loop .inv .1 .kept
 
 returns : tie.Need-returns Inv-loop μ-loop
-returns c = stopped (putProcess (c .before .before .before .before .before .before .before .before .before .before .args .processes)) _ _ _ _ _ (c .before .before .before .before .before .before .before .before .loop .inv .1) (c .field-fault .result) (setups-fault _ _ _ _ _ (c .before .before .before .before .before .before .before .loop-test .taken) (leaves fieldIn (c .before .before .before .before .process-at .ensures .answer) (c .before .enum-told .given .1) refl (c .field-fault .ensures))) _ (c .before .before .before .before .process-at .ensures .kept)
+returns c = stopped (putProcess (c .before .before .before .before .before .before .before .before .before .args .processes)) _ _ _ _ _ (c .before .before .before .before .before .before .before .loop .inv .1) (c .enum-told .given .1) (setups-fault _ _ _ _ _ (c .before .before .before .before .before .before .loop-test .taken) (read fieldIn (c .before .before .before .process-at .ensures .answer) (c .enum-told .given .1))) _ (c .before .before .before .process-at .ensures .kept)
 
 add-done : tie.Need-add-done Inv-loop μ-loop
 add-done c = search needs
@@ -69,7 +64,6 @@ processes-at-spec =
     process-at-requires
     enum-known-answer
     enum-told
-    field-fault-requires
     same-length
     returns
     add-done

@@ -1,7 +1,9 @@
--- `model::read` meets its contract: the first reading writes nothing, and the second puts what the first accepted.
-use mathlib.Core.Path.{sym, _∙_}
+-- The first reading writes nothing, and the second puts what the first accepted.
+use mathlib.Core.Path.{refl, sym, _∙_}
 use borrow.Author.Tests.{not-true, not-false}
-use Rattle.model.proofs.Storing.{nothing-read}
+use lib.ListN.{length}
+use Rattle.field.specs.Reading.{fieldIn, leaves}
+use Rattle.model.proofs.Steps.{made-fault}
 use Rattle.model.proofs.Promise.{no-room, refused, read-twice}
 use borrow.Author.Needs.{needs}
 use Rattle.model.proofs.read.Statement.{statement}
@@ -41,7 +43,7 @@ same-length-2 : tie.Need-same-length-2
 same-length-2 c = search needs
 
 returns-2 : tie.Need-returns-2
-returns-2 c = refused _ _ (sym (c .before .before .before .before .before .before .before .has-room .ensures) ∙ not-false _ (c .before .before .before .before .before .before .if1 .left)) (c .field-fault .result) (nothing-read (c .before .before .before .before .model-at .ensures) (c .before .enum-told .given .1) (c .field-fault .ensures)) (c .before .before .before .before .model-at .last .1 .0) (c .before .before .before .before .model-at .ensures .kept)
+returns-2 c = refused _ _ (sym (c .before .before .before .before .before .before .before .has-room .ensures) ∙ not-false _ (c .before .before .before .before .before .before .if1 .left)) (c .field-fault .result) (made-fault length _ (leaves fieldIn (c .before .before .before .before .model-at .ensures .answer) (c .before .enum-told .given .1) refl (c .field-fault .ensures))) (c .before .before .before .before .model-at .last .1 .0) (c .before .before .before .before .model-at .ensures .kept)
 
 model-at-requires-2 : tie.Need-model-at-requires-2
 model-at-requires-2 c κs = search needs

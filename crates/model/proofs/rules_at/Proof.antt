@@ -1,15 +1,14 @@
--- `model::rules_at` meets its contract. The invariant: so many rules are done, and what is left to read from here gives the rest. The measure is
--- the number of rules that are left.
+-- The invariant: so many rules are done, and what is left to read from here gives the rest. The measure is the number of rules that are left.
 use mathlib.Core.Path.{refl}
 use Prim.Native.Nat.{_≤_, _-_}
 use native.Mathlib.Omega.{arith}
-use borrow.Author.Needs.{needs}
 use Rattle.definition.specs.ModelBytes.{rulesAt}
-use Rattle.model.specs.Reading.{ruleIn}
+use Rattle.field.specs.Reading.{read, leaves}
+use Rattle.rulebytes.specs.Reading.{ruleIn}
 use Rattle.model.specs.Stored.{putRule}
-use Rattle.model.proofs.Steps.{read, leaves}
 use Rattle.model.proofs.Loops.{Going, stopped, ended}
 use Rattle.model.proofs.Rules.{kind-small, rules-start, rules-fault, rules-turn, rules-end}
+use borrow.Author.Needs.{needs}
 use Rattle.model.proofs.rules_at.Statement.{statement}
 use Rattle.model.proofs.rules_at.Tie as tie
 
@@ -38,7 +37,7 @@ same-length : tie.Need-same-length Inv-loop μ-loop
 same-length c = c .before .before .before .before .before .loop .inv .1 .kept
 
 returns : tie.Need-returns Inv-loop μ-loop
-returns c = stopped putRule _ _ _ _ _ (c .before .before .before .before .before .loop .inv .1) (c .rule-fault .result) (rules-fault _ _ _ _ _ _ _ (c .before .before .before .before .loop-test .taken) (leaves ruleIn (c .before .before .before .rule-at .ensures) (c .before .enum-told .given .1) refl (c .rule-fault .ensures))) _ refl
+returns c = stopped putRule _ _ _ _ _ (c .before .before .before .before .before .loop .inv .1) refl (rules-fault _ _ _ _ _ _ _ (c .before .before .before .before .loop-test .taken) (leaves ruleIn (c .before .before .before .rule-at .ensures) (c .before .enum-told .given .1) refl (c .rule-fault .ensures))) _ refl
 
 add-done : tie.Need-add-done Inv-loop μ-loop
 add-done c = search needs

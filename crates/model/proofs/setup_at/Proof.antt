@@ -1,9 +1,8 @@
--- `model::setup_at` meets its contract: each answer says what was read at its place; the first row is put when the rules stand in theirs.
+-- Each answer says what was read at its place; the first row is put when the rules stand in theirs.
 use mathlib.Core.Path.{refl}
-use Rattle.model.proofs.Steps.{read, leaves}
-use Rattle.model.proofs.Storing.{broken, nothing-read, setup-stored}
 use Rattle.definition.specs.ModelBytes.{setupAt}
-use Rattle.model.specs.Reading.{fieldIn}
+use Rattle.field.specs.Reading.{fieldIn, read}
+use Rattle.model.proofs.Storing.{broken, nothing-read, setup-stored}
 use borrow.Author.Needs.{needs}
 use Rattle.model.proofs.setup_at.Statement.{statement}
 use Rattle.model.proofs.setup_at.Tie as tie
@@ -17,12 +16,9 @@ enum-known-answer c = search needs
 enum-told : tie.Need-enum-told
 enum-told c = search needs
 
-field-fault-requires : tie.Need-field-fault-requires
-field-fault-requires c κs = search needs
-
 returns : tie.Need-returns
 unfolding setupAt
-returns c = broken (c .field-fault .result) (rw (leaves fieldIn (c .before .before .before .field .ensures) (c .before .enum-told .given .1) refl (c .field-fault .ensures))) refl
+returns c = broken (c .enum-told .given .1) (rw (read fieldIn (c .before .before .field .ensures) (c .enum-told .given .1))) refl
 
 field-requires-2 : tie.Need-field-requires-2
 field-requires-2 c κs = search needs
@@ -33,12 +29,9 @@ enum-known-answer-2 c = search needs
 enum-told-2 : tie.Need-enum-told-2
 enum-told-2 c = search needs
 
-field-fault-requires-2 : tie.Need-field-fault-requires-2
-field-fault-requires-2 c κs = search needs
-
 returns-2 : tie.Need-returns-2
 unfolding setupAt
-returns-2 c = broken (c .field-fault2 .result) (rw (read fieldIn (c .before .before .before .before .before .before .before .field .ensures) (c .before .before .before .before .before .answer .given .1), leaves fieldIn (c .before .before .before .field2 .ensures) (c .before .enum-told2 .given .1) refl (c .field-fault2 .ensures))) refl
+returns-2 c = broken (c .enum-told2 .given .1) (rw (read fieldIn (c .before .before .before .before .before .before .field .ensures) (c .before .before .before .before .answer .given .1), read fieldIn (c .before .before .field2 .ensures) (c .enum-told2 .given .1))) refl
 
 field-requires-3 : tie.Need-field-requires-3
 field-requires-3 c κs = search needs
@@ -49,12 +42,9 @@ enum-known-answer-3 c = search needs
 enum-told-3 : tie.Need-enum-told-3
 enum-told-3 c = search needs
 
-field-fault-requires-3 : tie.Need-field-fault-requires-3
-field-fault-requires-3 c κs = search needs
-
 returns-3 : tie.Need-returns-3
 unfolding setupAt
-returns-3 c = broken (c .field-fault3 .result) (rw (read fieldIn (c .before .before .before .before .before .before .before .before .before .before .before .field .ensures) (c .before .before .before .before .before .before .before .before .before .answer .given .1), read fieldIn (c .before .before .before .before .before .before .before .field2 .ensures) (c .before .before .before .before .before .answer2 .given .1), leaves fieldIn (c .before .before .before .field3 .ensures) (c .before .enum-told3 .given .1) refl (c .field-fault3 .ensures))) refl
+returns-3 c = broken (c .enum-told3 .given .1) (rw (read fieldIn (c .before .before .before .before .before .before .before .before .before .before .field .ensures) (c .before .before .before .before .before .before .before .before .answer .given .1), read fieldIn (c .before .before .before .before .before .before .field2 .ensures) (c .before .before .before .before .answer2 .given .1), read fieldIn (c .before .before .field3 .ensures) (c .enum-told3 .given .1))) refl
 
 sub-rules-at : tie.Need-sub-rules-at
 sub-rules-at c = search needs
@@ -68,15 +58,12 @@ enum-known-answer-4 c = search needs
 enum-told-4 : tie.Need-enum-told-4
 enum-told-4 c = search needs
 
-field-fault-requires-4 : tie.Need-field-fault-requires-4
-field-fault-requires-4 c κs = search needs
-
 same-length : tie.Need-same-length
 same-length c = search needs
 
 returns-4 : tie.Need-returns-4
 unfolding setupAt
-returns-4 c = broken (c .field-fault4 .result) (rw (read fieldIn (c .before .before .before .before .before .before .before .before .before .before .before .before .before .before .before .before .before .field .ensures) (c .before .before .before .before .before .before .before .before .before .before .before .before .before .before .before .answer .given .1), read fieldIn (c .before .before .before .before .before .before .before .before .before .before .before .before .before .field2 .ensures) (c .before .before .before .before .before .before .before .before .before .before .before .answer2 .given .1), read fieldIn (c .before .before .before .before .before .before .before .before .before .field3 .ensures) (c .before .before .before .before .before .before .before .answer3 .given .1), nothing-read (c .before .before .before .before .rules-at .ensures) (c .before .enum-told4 .given .1) (c .field-fault4 .ensures))) (c .before .before .before .before .rules-at .ensures .kept)
+returns-4 c = broken (c .enum-told4 .given .1) (rw (read fieldIn (c .before .before .before .before .before .before .before .before .before .before .before .before .before .before .before .before .field .ensures) (c .before .before .before .before .before .before .before .before .before .before .before .before .before .before .answer .given .1), read fieldIn (c .before .before .before .before .before .before .before .before .before .before .before .before .field2 .ensures) (c .before .before .before .before .before .before .before .before .before .before .answer2 .given .1), read fieldIn (c .before .before .before .before .before .before .before .before .field3 .ensures) (c .before .before .before .before .before .before .answer3 .given .1), nothing-read (c .before .before .before .rules-at .ensures) (c .enum-told4 .given .1))) (c .before .before .before .rules-at .ensures .kept)
 
 heading-requires : tie.Need-heading-requires
 heading-requires c κs = search needs
@@ -98,23 +85,19 @@ setup-at-spec =
     field-requires
     enum-known-answer
     enum-told
-    field-fault-requires
     returns
     field-requires-2
     enum-known-answer-2
     enum-told-2
-    field-fault-requires-2
     returns-2
     field-requires-3
     enum-known-answer-3
     enum-told-3
-    field-fault-requires-3
     returns-3
     sub-rules-at
     rules-at-requires
     enum-known-answer-4
     enum-told-4
-    field-fault-requires-4
     same-length
     returns-4
     heading-requires

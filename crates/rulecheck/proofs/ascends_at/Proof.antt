@@ -1,7 +1,8 @@
 -- The last row has none to stand before; another is compared with the next.
 use mathlib.Core.Path.{_∙_}
 use borrow.Author.Needs.{needs}
-use Rattle.rulecheck.proofs.Steps.{ascends-last, ascends-next}
+use Rattle.laws.specs.Walks.{last-row, row-next}
+use Rattle.rulecheck.specs.Check.{itself, rowKey}
 use Rattle.rulecheck.proofs.ascends_at.Statement.{statement}
 use Rattle.rulecheck.proofs.ascends_at.Tie as tie
 
@@ -9,7 +10,7 @@ add-next : tie.Need-add-next
 add-next c = search needs
 
 returns : tie.Need-returns
-returns c = ascends-last (c .before .args .rules .now) (c .before .args .i) (c .before .pre) (c .if1 .taken)
+returns c = last-row itself (c .before .args .rules .now) (c .before .args .i) (c .before .pre) rowKey (c .if1 .taken)
 
 mul-before : tie.Need-mul-before
 mul-before c = search needs
@@ -54,7 +55,7 @@ returns-2 : tie.Need-returns-2
 returns-2 c =
     let a = c .before .before .before .before .before .before .args in
     let if1 = c .before .before .before .before .before .if1 in
-    c .before2 .ensures ∙ ascends-next (a .rules .now) (a .i) (c .before .before .before .before .before .before .pre) (if1 .left)
+    c .before2 .ensures ∙ row-next itself (a .rules .now) (a .i) (c .before .before .before .before .before .before .pre) rowKey (if1 .left)
 
 pub ascends-at-spec : {M : Type 1} → statement M
 ascends-at-spec =

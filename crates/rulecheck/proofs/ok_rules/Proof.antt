@@ -2,10 +2,9 @@
 use mathlib.Core.Path.{_≡_, refl, sym, _∙_}
 use Prim.Native.Nat.{_≤_, _-_}
 use lib.ListN.{length, drop}
-use borrow.Author.Tests.{not-true, not-false}
 use borrow.Author.Needs.{needs}
-use Rattle.rulecheck.specs.Check.{okRows}
-use Rattle.rulecheck.proofs.Steps.{row-wrong, row-unordered, row-right, rows-done}
+use Rattle.laws.specs.Walks.{walk-end, walk-wrong, walk-unordered, walk-right, yes-said, no-said}
+use Rattle.rulecheck.specs.Check.{itself, rowKey, okRow, okRows}
 use Rattle.rulecheck.proofs.ok_rules.Statement.{statement}
 use Rattle.rulecheck.proofs.ok_rules.Tie as tie
 
@@ -32,7 +31,7 @@ returns c =
     let a = c .before .before .before .before .before .args in
     let loop = c .before .before .before .before .loop in
     let loop-test = c .before .before .before .loop-test in
-    sym (loop .inv .1 ∙ row-wrong (a .rules .now) (loop .i) (loop-test .taken) (a .processes) (sym (c .before .ok-row .ensures) ∙ not-true _ (c .if1 .taken)))
+    sym (loop .inv .1 ∙ walk-wrong itself (a .rules .now) (loop .i) (loop-test .taken) (okRow (a .processes)) rowKey (no-said (c .before .ok-row .ensures) (c .if1 .taken)))
 
 ascends-at-requires : tie.Need-ascends-at-requires Inv-loop μ-loop
 ascends-at-requires c κs = search needs
@@ -44,7 +43,7 @@ returns-2 c =
     let loop-test = c .before .before .before .before .before .loop-test in
     let ok-row = c .before .before .before .ok-row in
     let if1 = c .before .before .if1 in
-    sym (loop .inv .1 ∙ row-unordered (a .rules .now) (loop .i) (loop-test .taken) (a .processes) (sym (ok-row .ensures) ∙ not-false _ (if1 .left)) (sym (c .before .ascends-at .ensures) ∙ not-true _ (c .if2 .taken)))
+    sym (loop .inv .1 ∙ walk-unordered itself (a .rules .now) (loop .i) (loop-test .taken) (okRow (a .processes)) rowKey (yes-said (ok-row .ensures) (if1 .left)) (no-said (c .before .ascends-at .ensures) (c .if2 .taken)))
 
 add-i : tie.Need-add-i Inv-loop μ-loop
 add-i c = search needs
@@ -59,13 +58,13 @@ loop-again c =
     let loop-test = c .before .before .before .before .before .loop-test in
     let ok-row = c .before .before .before .ok-row in
     let if1 = c .before .before .if1 in
-    (search needs, loop .inv .1 ∙ row-right (a .rules .now) (loop .i) (loop-test .taken) (a .processes) (sym (ok-row .ensures) ∙ not-false _ (if1 .left)) (sym (c .before .ascends-at .ensures) ∙ not-false _ (c .if2 .left)))
+    (search needs, loop .inv .1 ∙ walk-right itself (a .rules .now) (loop .i) (loop-test .taken) (okRow (a .processes)) rowKey (yes-said (ok-row .ensures) (if1 .left)) (yes-said (c .before .ascends-at .ensures) (c .if2 .left)))
 
 returns-3 : tie.Need-returns-3 Inv-loop μ-loop
 returns-3 c =
     let a = c .before .before .args in
     let loop = c .before .loop in
-    sym (loop .inv .1 ∙ rows-done (a .processes) (a .rules .now) (loop .i) (c .loop-test .left))
+    sym (loop .inv .1 ∙ walk-end itself (a .rules .now) (loop .i) (okRow (a .processes)) rowKey (c .loop-test .left))
 
 pub ok-rules-spec : {M : Type 1} → statement M
 ok-rules-spec =
