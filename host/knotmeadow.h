@@ -46,6 +46,7 @@ typedef struct { uint32_t rows[65][16]; } knotmeadow_rules; /* the model of one 
 typedef struct { uint32_t rows[64][8]; } knotmeadow_queue;
 typedef struct { uint32_t words[8]; } knotmeadow_message;
 typedef struct { uint32_t rows[33][8]; } knotmeadow_own;
+typedef struct { uint32_t words[4]; } knotmeadow_answer; /* of one call of a run */
 
 /* A model and a state, 79,648 bytes that may hold anything before the first call. They are the host's: it may copy them, keep them and hand them in
    again. The words of a state that no call left are judged like any other, and a bad one is refused by 16. */
@@ -92,6 +93,16 @@ uint32_t knotmeadow_advance(const knotmeadow_rules *model, size_t models, knotme
                             knotmeadow_queue *outputs, size_t outputs_length, const knotmeadow_message *transit, size_t transit_length,
                             knotmeadow_own *own, size_t own_length, uint32_t ceiling, uint8_t *buffer, size_t buffer_length,
                             uint32_t values[3]);
+
+/* A start, and then the calls that stand in `bytes` in house numbers, as in a rehearsal's file after the model. Row i of `answers` holds what call i
+   answered: its number, then its values, 0 for those of three that it does not have. The record of the whole stands at the start of `committed`.
+   `counts` are three: calls made, the place of the next call in `bytes`, bytes of the record. The run stops at the end of `bytes`, before a call that
+   cannot be read, and where no row or fewer than 4,096 bytes of room are left. A call that is refused ends nothing: its number stands in its row.
+   The result is 16 where the start is refused, and then nothing is written. */
+uint32_t knotmeadow_run(const uint8_t *bytes, size_t length, const knotmeadow_rules *model, size_t models, knotmeadow_queue *inputs,
+                        size_t inputs_length, knotmeadow_queue *outputs, size_t outputs_length, knotmeadow_message *transit,
+                        size_t transit_length, knotmeadow_own *own, size_t own_length, knotmeadow_answer *answers, size_t answers_length,
+                        uint8_t *committed, size_t committed_length, size_t counts[3]);
 
 /* Reads the entry of the committed record at `at`, after an entry of time `former` (0 at first): time, process, messages read, mode and tally are
    put into `entry`, and the place of the next entry into `place`. A refusal leaves `entry` and puts the place of the number at fault into `place`. */

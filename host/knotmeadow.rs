@@ -28,6 +28,9 @@ extern "C" {
     fn knotmeadow_advance(model: *const Rules, models: usize, inputs: *mut Queue, inputs_length: usize, outputs: *mut Queue, outputs_length: usize,
         transit: *const Message, transit_length: usize, own: *mut Own, own_length: usize,
         ceiling: u32, buffer: *mut u8, buffer_length: usize, values: *mut [u32; 3]) -> u32;
+    fn knotmeadow_run(bytes: *const u8, length: usize, model: *const Rules, models: usize, inputs: *mut Queue, inputs_length: usize,
+        outputs: *mut Queue, outputs_length: usize, transit: *mut Message, transit_length: usize, own: *mut Own, own_length: usize,
+        answers: *mut [u32; 4], answers_length: usize, committed: *mut u8, committed_length: usize, counts: *mut [usize; 3]) -> u32;
     fn knotmeadow_read_entry(bytes: *const u8, length: usize, at: usize, former: u32, entry: *mut [u32; 5], place: *mut usize) -> u32;
     fn knotmeadow_step(model: *const Rules, models: usize, process: u32, kind: u32, value: u32, mode: *mut u32, tally: *mut u32) -> u32;
 }
@@ -36,6 +39,13 @@ extern "C" {
 pub struct Fault {
     pub number: u32,
     pub at: usize,
+}
+
+/// What a run did: calls made, the place of the next one, bytes of the record.
+pub struct Ran {
+    pub calls: usize,
+    pub next: usize,
+    pub recorded: usize,
 }
 
 /// A model and a state.
@@ -55,8 +65,12 @@ fn answered<T>(number: u32, answer: T) -> Result<T, u32> {
 /// Calls a function on the five lists of a memory, each with its length.
 macro_rules! on_lists {
     ($function:ident, $memory:expr $(, $argument:expr)*) => {
+        on_lists!($function after (), $memory $(, $argument)*)
+    };
+    ($function:ident after ($($first:expr),*), $memory:expr $(, $argument:expr)*) => {
         unsafe {
             $function(
+                $($first,)*
                 $memory.model.as_mut_ptr(), $memory.model.len(),
                 $memory.inputs.as_mut_ptr(), $memory.inputs.len(),
                 $memory.outputs.as_mut_ptr(), $memory.outputs.len(),
@@ -117,6 +131,19 @@ impl Memory {
         let mut values = [0; 3];
         let number = on_lists!(knotmeadow_advance, self, ceiling, buffer.as_mut_ptr(), buffer.len(), &mut values);
         answered(number, values)
+    }
+
+    /// A start, and then the calls that stand in `bytes` in house numbers: a row for each answer (its number, then three values), and the record at the
+    /// start of `committed`. It stops at the end of `bytes`, before a call that cannot be read, and where no row or fewer than 4,096 bytes of room
+    /// are left.
+    pub fn run(&mut self, bytes: &[u8], answers: &mut [[u32; 4]], committed: &mut [u8]) -> Result<Ran, u32> {
+        let mut counts = [0; 3];
+        let number = on_lists!(
+            knotmeadow_run after (bytes.as_ptr(), bytes.len()), self,
+            answers.as_mut_ptr(), answers.len(), committed.as_mut_ptr(), committed.len(), &mut counts
+        );
+        let [calls, next, recorded] = counts;
+        answered(number, Ran { calls, next, recorded })
     }
 
     /// Steps the mode and tally of a process of the host's own list by one message, where they stand. The state is not asked and not changed.

@@ -15,9 +15,15 @@ use Rattle.definition.specs.Calls.{numberOf, valuesOf}
 use Rattle.definition.specs.Model.{Model}
 use Rattle.definition.specs.ModelBytes.{Parsed, Got, Fault}
 use Rattle.definition.specs.Record.{onto}
+use Rattle.definition.specs.Rehearsal.{rehearsal}
+use Rattle.rule.specs.Rows.{modelOf}
 use Rattle.memory.specs.Memory.{Memory, Table, Rows, Lent, entered, left}
 use Rattle.memory.specs.Promise.{isRefusal, due, Kept, dueStart, Begun}
 use Rattle.model.specs.Stored.{modelFor, answered, Promise}
+use Rattle.run.specs.declared.Ran.{Ran}
+use Rattle.run.specs.declared.Ran.the-variants.{Done as RanDone, Refused as RanRefused}
+use Rattle.run.specs.Made.{Made}
+use Rattle.run.specs.Promise.{callsDue, Runs}
 use Rattle.host.specs.declared.Stepped.{Stepped}
 use Rattle.host.specs.declared.Stepped.the-variants.{Done, Refused}
 
@@ -55,6 +61,34 @@ Gives model inputs outputs transit own c values =
 abbrev pub Writes : Lent Table → Lent Table → Lent Table → Lent Rows → Lent Table → Call → Lent (List ℕ) → Type 0
 Writes model inputs outputs transit own c buffer =
     now (buffer .exit) ≡ onto (due (entered model inputs outputs transit own) c .bytes) (now (buffer .entry))
+
+-- ---- a run of many calls
+
+-- the answer that is due: the start's refusal, or how many calls were made, the place of the next, and the length of their record
+unfoldable pub ranDue : List ℕ → Memory → Rows → List ℕ → Ran
+ranDue bs m answers committed =
+    let x : Made = callsDue bs m answers committed in
+    cond (isRefusal (dueStart m .answer)) (RanRefused 16)
+    (RanDone (length (x .calls)) (x .next) (length (rehearsal (modelOf (m .model)) (x .calls) .bytes)))
+
+-- its number, 0 for none, and its counts in three words; a refusal leaves them as they were
+abbrev pub ranNumber : Ran → ℕ
+ranNumber (RanDone calls next recorded) = 0
+ranNumber (RanRefused n) = n
+
+abbrev pub countsAfter : Ran → List ℕ → List ℕ
+countsAfter (RanDone calls next recorded) before = calls ∷ next ∷ recorded ∷ []
+countsAfter (RanRefused n) before = before
+
+-- the promise of the answer that is due, whose number is the result: state, rows and record are those of the rehearsal of the calls that are made
+pub record RunTold (bs : List ℕ) (m w : Memory) (answers answers′ : Rows) (committed committed′ : List ℕ) (r : ℕ) : Type 0 where
+  pub runs : Runs bs m (ranDue bs m answers committed) w answers answers′ committed committed′
+  pub number : r ≡ ranNumber (ranDue bs m answers committed)
+
+abbrev pub TellsRun : Lent (List ℕ) → Lent Table → Lent Table → Lent Table → Lent Rows → Lent Table → Lent Rows → Lent (List ℕ) → ℕ → Type 0
+TellsRun bytes model inputs outputs transit own answers committed r =
+    RunTold (now (bytes .entry)) (entered model inputs outputs transit own) (left model inputs outputs transit own)
+    (now (answers .entry)) (now (answers .exit)) (now (committed .entry)) (now (committed .exit)) r
 
 -- ---- what is read from bytes
 

@@ -19,11 +19,12 @@ use Rattle.definition.specs.State.{State}
 use Rattle.definition.specs.Calls.{Result, numberOf, done, check, started, start}
 use Rattle.lawful.specs.Steps.{by-steps}
 use Rattle.rule.specs.Rows.{modelOf, shapedModel}
-use Rattle.memory.specs.Memory.{Memory, Table, stateOf, shaped}
+use Rattle.memory.specs.Memory.{Memory, Table, Rows, stateOf, shaped}
 use Rattle.memory.specs.Promise.{isRefusal, due, sized, dueStart}
 use Rattle.model.specs.Stored.{hasRoom, modelFor}
 use Rattle.record.specs.Reading.{entryAt}
-use Rattle.knotmeadow.specs.Told.{numberIn}
+use Rattle.run.specs.declared.Ran.the-variants.{Done as RanDone, Refused as RanRefused}
+use Rattle.knotmeadow.specs.Told.{ranDue, ranNumber, numberIn}
 
 -- ---- the calls
 
@@ -51,6 +52,15 @@ unfolding dueStart start
 begun m =
     tested (not (shapedModel (m .model) && sized m)) 15 (stateOf m) _
     (tested (not (okModel (modelOf (m .model)))) 15 (stateOf m) (done Started (started (modelOf (m .model)))) (λ e. refl))
+
+begun-by : (refused : Bool) (calls next recorded : ℕ) → ranNumber (cond refused (RanRefused 16) (RanDone calls next recorded)) ≡ 0 → refused ≡ false
+begun-by true calls next recorded e = absurd (omega (arith, e))
+begun-by false calls next recorded e = refl
+
+-- a run that is told by 0 was begun
+pub run-begun : (bs : List ℕ) (m : Memory) (answers : Rows) (committed : List ℕ) → ranNumber (ranDue bs m answers committed) ≡ 0 → isRefusal (dueStart m .answer) ≡ false
+unfolding ranDue
+run-begun bs m answers committed = begun-by (isRefusal (dueStart m .answer)) _ _ _
 
 -- ---- what is read from bytes
 
