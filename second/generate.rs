@@ -1,6 +1,7 @@
 //! Seeded random run files.
 //!
-//!     generate FIRST COUNT DIR      writes DIR/SEED.run for COUNT seeds from FIRST on
+//!     generate FIRST COUNT DIR           writes DIR/SEED.run for COUNT seeds from FIRST on
+//!     generate FIRST COUNT --stream      writes them to standard output, each preceded by its length in four bytes, low byte first
 //!
 //! A seed settles its file. Each file has one of seven characters in turn: mixed calls; storms (the newest message first, so that much is undone);
 //! ties (three times only); full queues; the end of time; a calm run; and damaged bytes. Calls are chosen on the plain rendering's state, so that
@@ -9,6 +10,7 @@ mod engine;
 mod file;
 use engine::Engine;
 use file::{read_call, read_head};
+use std::io::Write as _;
 
 struct Dice(u64);
 
@@ -135,7 +137,8 @@ fn calls(d: &mut Dice, c: Character, engine: &mut Engine, out: &mut Vec<u8>) {
         } else {
             put(out, 3);
             let soon = engine.horizon.saturating_add(d.below(20));
-            put(out, if d.one_in(3) { u32::MAX } else { soon });
+            let low = d.below(engine.horizon.max(1));
+            put(out, if d.one_in(3) { u32::MAX } else if d.one_in(6) { low } else { soon });
         }
         let (call, _) = read_call(out, start).expect("a call");
         engine.call(call);
@@ -187,11 +190,19 @@ fn run(seed: u64) -> Vec<u8> {
 
 fn main() {
     let args: Vec<String> = std::env::args().collect();
-    let [_, first, count, dir] = &args[..] else { panic!("generate FIRST COUNT DIR") };
+    let [_, first, count, to] = &args[..] else { panic!("generate FIRST COUNT DIR, or --stream in place of DIR") };
     let first: u64 = first.parse().expect("a number");
     let count: u64 = count.parse().expect("a number");
-    std::fs::create_dir_all(dir).expect("a folder");
+    if to == "--stream" {
+        let mut out = std::io::BufWriter::new(std::io::stdout());
+        for file in (first..first + count).map(run) {
+            out.write_all(&(file.len() as u32).to_le_bytes()).expect("standard output");
+            out.write_all(&file).expect("standard output");
+        }
+        return;
+    }
+    std::fs::create_dir_all(to).expect("a folder");
     for seed in first..first + count {
-        std::fs::write(format!("{dir}/{seed}.run"), run(seed)).expect("a run file");
+        std::fs::write(format!("{to}/{seed}.run"), run(seed)).expect("a run file");
     }
 }

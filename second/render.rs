@@ -2,13 +2,13 @@
 //!
 //!     render < RUN              prints the program's lines
 //!     render --state < RUN      prints the whole state as lists as well, after the model and after each call
-//!     render FILE ..            for each run file writes FILE.lines and FILE.state
+//!     render --many [--state]   the same for a stream of run files (see generate); `rehearsal N` stands before each, from 0 on
 mod engine;
 mod file;
 use engine::Engine;
-use file::{read_call, read_head, Call};
+use file::{read_call, read_head, read_stream, Call};
 use std::fmt::Write as _;
-use std::io::{Read as _, Write as _};
+use std::io::{BufWriter, Read as _, Write as _};
 
 fn work(bytes: &[u8], with_state: bool) -> String {
     let (model, mut at) = match read_head(bytes) {
@@ -25,6 +25,9 @@ fn work(bytes: &[u8], with_state: bool) -> String {
             Ok(read) => read,
             Err(f) => {
                 writeln!(text, "call refused {} at {}", f.number, f.at).unwrap();
+                if with_state {
+                    text += &engine.state();
+                }
                 break;
             }
         };
@@ -44,16 +47,15 @@ fn work(bytes: &[u8], with_state: bool) -> String {
 }
 
 fn main() {
-    let files: Vec<String> = std::env::args().skip(1).filter(|a| a != "--state").collect();
-    for file in &files {
-        let bytes = std::fs::read(file).expect("a run file");
-        std::fs::write(format!("{file}.lines"), work(&bytes, false)).expect("its lines");
-        std::fs::write(format!("{file}.state"), work(&bytes, true)).expect("its states");
+    let has = |option: &str| std::env::args().any(|a| a == option);
+    let mut bytes = Vec::new();
+    std::io::stdin().read_to_end(&mut bytes).expect("standard input");
+    let mut out = BufWriter::new(std::io::stdout());
+    if !has("--many") {
+        out.write_all(work(&bytes, has("--state")).as_bytes()).expect("standard output");
+        return;
     }
-    if files.is_empty() {
-        let with_state = std::env::args().any(|a| a == "--state");
-        let mut bytes = Vec::new();
-        std::io::stdin().read_to_end(&mut bytes).expect("standard input");
-        std::io::stdout().write_all(work(&bytes, with_state).as_bytes()).expect("standard output");
+    for (n, file) in read_stream(&bytes).iter().enumerate() {
+        write!(out, "rehearsal {n}\n{}", work(file, has("--state"))).expect("standard output");
     }
 }
