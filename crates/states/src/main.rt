@@ -24,12 +24,6 @@ const FILES: u32 = 1000000;
 // More than any length: the stream has ended.
 const ENDED: usize = 4294967296;
 
-// After a turn: the place of the next call, and how far the output is filled.
-struct Place {
-    next: usize,
-    end: usize,
-}
-
 fn wide(x: u32) -> u64 {
     x as u64
 }
@@ -225,197 +219,102 @@ fn processes(
     end
 }
 
-// The whole state.
+// Writes the whole state, if there is one.
 fn state(
+    is_started: bool,
     model: &[[[u32; 16]; 65]],
     inputs: &[[[u32; 8]; 64]],
     outputs: &[[[u32; 8]; 64]],
     transit: &[[u32; 8]],
     own: &[[[u32; 8]; 33]],
     out: &mut [u8],
-    at: usize,
-) -> usize {
+) {
+    if !is_started {
+        return;
+    }
     if own.len() <= WHOLE {
-        return at;
+        return;
     }
-    let end = whole_of(&own[WHOLE], transit, out, at);
-    processes(table::processes(model), inputs, outputs, own, out, end)
+    let first = whole_of(&own[WHOLE], transit, out, 0);
+    let end = processes(table::processes(model), inputs, outputs, own, out, first);
+    write(out, end);
 }
 
-// What a turn printed. After a refusal nothing is left of the input.
-fn turn(turn: Progress, input: usize, text: &[u8], out: &mut [u8], at: usize) -> Place {
+// Writes what a turn at a place printed, and gives the place of the next turn, which is further on: past the end where no call is left, or after a
+// refusal.
+fn tell(turn: Progress, text: &[u8], at: usize, input: &[u8]) -> usize
+    requires { ⌜ at ≤ length (now input) ⌝ }
+    ensures { λ r. ⌜ at < r ⌝ }
+{
+    let past = input.len() + 1;
     let Progress::Printed { end, next } = turn else {
-        return Place {
-            next: input,
-            end: word(b"refused\n", out, at),
-        };
+        io::write_all(STDOUT_FILENO, b"refused\n");
+        return past;
     };
-    let count = within(end, text);
-    let start = flush(16384, out, at);
-    Place {
-        next,
-        end: word(&text[..count], out, start),
+    write(text, end);
+    if next <= at {
+        return past;
     }
+    if input.len() <= next {
+        return past;
+    }
+    next
 }
 
-// Whether the first turn's line is `model ok`.
-fn started(text: &[u8]) -> bool {
+// Whether there is a state after the turn at a place: the first turn's line must be `model ok`.
+fn is_started(at: usize, text: &[u8]) -> bool {
+    if 0 < at {
+        return true;
+    }
     if text.len() <= 6 {
         return false;
     }
     text[6] == b'o'
 }
 
-// The first turn.
-fn begin(
+// The turn at a place: the first at 0, else that of the call there.
+fn turn(
+    bytes: &[u8],
+    at: usize,
+    model: &mut [[[u32; 16]; 65]],
+    inputs: &mut [[[u32; 8]; 64]],
+    outputs: &mut [[[u32; 8]; 64]],
+    transit: &mut [[u32; 8]],
+    own: &mut [[[u32; 8]; 33]],
+    text: &mut [u8],
+) -> Progress {
+    if at == 0 {
+        return rehearsal::begin(bytes, model, inputs, outputs, transit, own, text);
+    }
+    rehearsal::step(bytes, at, model, inputs, outputs, transit, own, text)
+}
+
+// A whole rehearsal: what each turn prints, and the state after it.
+fn turns(
     bytes: &[u8],
     model: &mut [[[u32; 16]; 65]],
-    inputs: &[[[u32; 8]; 64]],
-    outputs: &[[[u32; 8]; 64]],
-    transit: &[[u32; 8]],
-    own: &mut [[[u32; 8]; 33]],
-    text: &mut [u8],
-    out: &mut [u8],
-    at: usize,
-) -> Place {
-    let first = rehearsal::begin(bytes, model, inputs, outputs, transit, own, text);
-    let place = turn(first, bytes.len(), text, out, at);
-    if !started(text) {
-        return place;
-    }
-    Place {
-        next: place.next,
-        end: state(model, inputs, outputs, transit, own, out, place.end),
-    }
-}
-
-// The next place, which is further on; or the end of the input.
-fn onward(from: usize, to: usize, input: usize) -> usize
-    requires { ⌜ from < input ⌝ }
-    ensures { λ r. ⌜ from < r ⌝ }
-{
-    if to <= from {
-        return input;
-    }
-    to
-}
-
-// The turn of the call at a place.
-fn call(
-    bytes: &[u8],
-    at: usize,
-    model: &[[[u32; 16]; 65]],
     inputs: &mut [[[u32; 8]; 64]],
     outputs: &mut [[[u32; 8]; 64]],
     transit: &mut [[u32; 8]],
     own: &mut [[[u32; 8]; 33]],
     text: &mut [u8],
     out: &mut [u8],
-    end: usize,
-) -> Place
-    requires { ⌜ at < length (now bytes) ⌝ }
-    ensures { λ r. ⌜ at < r .next ⌝ }
-{
-    let progress = rehearsal::step(bytes, at, model, inputs, outputs, transit, own, text);
-    let place = turn(progress, bytes.len(), text, out, end);
-    let next = onward(at, place.next, bytes.len());
-    Place {
-        next,
-        end: state(model, inputs, outputs, transit, own, out, place.end),
-    }
-}
-
-// All turns but the first.
-fn calls(
-    bytes: &[u8],
-    at: usize,
-    model: &[[[u32; 16]; 65]],
-    inputs: &mut [[[u32; 8]; 64]],
-    outputs: &mut [[[u32; 8]; 64]],
-    transit: &mut [[u32; 8]],
-    own: &mut [[[u32; 8]; 33]],
-    text: &mut [u8],
-    out: &mut [u8],
-    end: usize,
-) -> usize {
-    let mut next = at;
-    let mut filled = end;
-    while next < bytes.len() {
-        let place = call(
-            bytes,
-            next,
+) {
+    let mut at = 0;
+    while at <= bytes.len() {
+        let turn = turn(bytes, at, model, inputs, outputs, transit, own, text);
+        let next = tell(turn, text, at, bytes);
+        state(
+            is_started(at, text),
             model,
             inputs,
             outputs,
             transit,
             own,
-            text,
             out,
-            filled,
         );
-        next = place.next;
-        filled = place.end;
+        at = next;
     }
-    filled
-}
-
-// A whole rehearsal, of so many bytes of the input.
-fn rehearse(
-    input: &[u8],
-    size: usize,
-    model: &mut [[[u32; 16]; 65]],
-    inputs: &mut [[[u32; 8]; 64]],
-    outputs: &mut [[[u32; 8]; 64]],
-    transit: &mut [[u32; 8]],
-    own: &mut [[[u32; 8]; 33]],
-    text: &mut [u8],
-    out: &mut [u8],
-    at: usize,
-) -> usize {
-    let count = within(size, input);
-    let bytes = &input[..count];
-    let place = begin(bytes, model, inputs, outputs, transit, own, text, out, at);
-    calls(
-        bytes,
-        place.next,
-        model,
-        inputs,
-        outputs,
-        transit,
-        own,
-        text,
-        out,
-        place.end,
-    )
-}
-
-// A rehearsal with its number.
-fn file(
-    number: u32,
-    input: &[u8],
-    size: usize,
-    model: &mut [[[u32; 16]; 65]],
-    inputs: &mut [[[u32; 8]; 64]],
-    outputs: &mut [[[u32; 8]; 64]],
-    transit: &mut [[u32; 8]],
-    own: &mut [[[u32; 8]; 33]],
-    text: &mut [u8],
-    out: &mut [u8],
-    at: usize,
-) -> usize {
-    let start = line(b"rehearsal", row(number, 0, 0), 1, out, at);
-    rehearse(
-        input,
-        size,
-        model,
-        inputs,
-        outputs,
-        transit,
-        own,
-        text,
-        out,
-        start,
-    )
 }
 
 // The number in four bytes.
@@ -438,6 +337,12 @@ fn read(input: &mut [u8]) -> usize {
     io::read_full(STDIN_FILENO, &mut input[..count])
 }
 
+// Writes the line that begins a rehearsal.
+fn number_line(number: u32, out: &mut [u8]) {
+    let end = line(b"rehearsal", row(number, 0, 0), 1, out, 0);
+    write(out, end);
+}
+
 // One run file after another.
 fn files(
     input: &mut [u8],
@@ -448,18 +353,17 @@ fn files(
     own: &mut [[[u32; 8]; 33]],
     text: &mut [u8],
     out: &mut [u8],
-) -> usize {
-    let mut end = 0;
-    let mut count: u32 = 0;
-    while count < FILES {
+) {
+    let mut number: u32 = 0;
+    while number < FILES {
         let size = read(input);
         if size == ENDED {
-            return end;
+            return;
         }
-        end = file(
-            count,
-            input,
-            size,
+        number_line(number, out);
+        let count = within(size, input);
+        turns(
+            &input[..count],
             model,
             inputs,
             outputs,
@@ -467,11 +371,9 @@ fn files(
             own,
             text,
             out,
-            end,
         );
-        count += 1;
+        number += 1;
     }
-    end
 }
 
 fn main() {
@@ -483,7 +385,7 @@ fn main() {
     let mut own = [[[0u32; 8]; 33]; 9];
     let mut text = [0u8; rehearsal::LONGEST];
     let mut out = io::large_buffer();
-    let end = files(
+    files(
         &mut input,
         &mut model,
         &mut inputs,
@@ -493,5 +395,4 @@ fn main() {
         &mut text,
         &mut out,
     );
-    write(&out, end);
 }

@@ -7,11 +7,12 @@ use Rattle.states.proofs.files.Statement.{statement}
 use Rattle.states.proofs.files.Tie as tie
 
 abbrev Inv-loop : tie.InvT-loop
-Inv-loop input₀ model₀ inputs₀ outputs₀ transit₀ own₀ text₀ out₀ end₀ count₀ input model inputs outputs transit own text out end count =
+Inv-loop input₀ model₀ inputs₀ outputs₀ transit₀ own₀ text₀ out₀ number₀ input model inputs outputs transit own text out number =
     (length input ≡ length input₀) × (length model ≡ length model₀) × (length inputs ≡ length inputs₀) × (length outputs ≡ length outputs₀) × (length transit ≡ length transit₀) × (length own ≡ length own₀) × (length text ≡ length text₀) × (length out ≡ length out₀)
 
 abbrev μ-loop : tie.MeasureT-loop
-μ-loop input₀ model₀ inputs₀ outputs₀ transit₀ own₀ text₀ out₀ end₀ count₀ input model inputs outputs transit own text out end count = 1000000 - count
+μ-loop input₀ model₀ inputs₀ outputs₀ transit₀ own₀ text₀ out₀ number₀ input model inputs outputs transit own text out number =
+    1000000 - number
 
 loop-holds : tie.Need-loop-holds Inv-loop μ-loop
 loop-holds c = search needs
@@ -46,11 +47,23 @@ same-length-8 c = search needs
 returns : tie.Need-returns Inv-loop μ-loop
 returns c = search needs
 
-file-requires : tie.Need-file-requires Inv-loop μ-loop
-file-requires c κs = search needs
+number-line-requires : tie.Need-number-line-requires Inv-loop μ-loop
+number-line-requires c κs = search needs
 
-add-count : tie.Need-add-count Inv-loop μ-loop
-add-count c = search needs
+within-requires : tie.Need-within-requires Inv-loop μ-loop
+within-requires c κs = search needs
+
+slice-reshare-prefix-turns : tie.Need-slice-reshare-prefix-turns Inv-loop μ-loop
+slice-reshare-prefix-turns c = search needs
+
+slice-aggregate-turns : tie.Need-slice-aggregate-turns Inv-loop μ-loop
+slice-aggregate-turns c = search needs
+
+turns-requires : tie.Need-turns-requires Inv-loop μ-loop
+turns-requires c κs = search needs
+
+add-number : tie.Need-add-number Inv-loop μ-loop
+add-number c = search needs
 
 loop-less : tie.Need-loop-less Inv-loop μ-loop
 loop-less c = search needs
@@ -102,8 +115,12 @@ files-spec =
     same-length-7
     same-length-8
     returns
-    file-requires
-    add-count
+    number-line-requires
+    within-requires
+    slice-reshare-prefix-turns
+    slice-aggregate-turns
+    turns-requires
+    add-number
     loop-less
     loop-again
     same-length-9
