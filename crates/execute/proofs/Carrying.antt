@@ -7,14 +7,15 @@ use lib.ListN.{length, getD, take, set}
 use lib.Seq.{getD-set-same, drop-set-lt}
 use Rattle.definition.specs.declared.Saved.{Saved}
 use Rattle.definition.specs.declared.Stand.{Stand}
-use Rattle.definition.specs.Model.{Done, event}
+use Rattle.definition.specs.Model.{Done}
 use Rattle.definition.specs.State.{process}
-use Rattle.queue.specs.Rows.{entries, messages}
+use Rattle.queue.specs.Rows.{entryOf, entries, messages}
+use Rattle.queue.specs.Queues.{receivedAt, Parted}
 use Rattle.history.specs.Rows.{savedOf, savedAt}
 use Rattle.memory.specs.Memory.{number, withCounts}
 use Rattle.memory.specs.Laws.{same-process}
 use Rattle.execute.specs.declared.Due.{Due}
-use Rattle.execute.specs.Event.{Readable, eventOf, RoomFor, Joined}
+use Rattle.event.specs.Event.{Readable, eventOf, RoomFor, Joined}
 use Rattle.execute.specs.Plan.{Sound, unreadOf, dueOf, Going, Carried}
 use Rattle.execute.proofs.Judging.{readable}
 
@@ -38,10 +39,10 @@ module _ (rules own q output transit : List (List ℕ)) (mails₀ p : ℕ) (s : 
 
   -- what is asked for to perform it
   pub performs : (i o : ℕ) → i ≡ number own 0 → o ≡ number own 1 → length output ≡ 64 → length transit ≡ 128
-      → Readable q i (g .event .time) × RoomFor (eventOf rules q i p (g .event .time) (g .before)) mails₀ o transit output
+      → Readable q (g .from) i (g .event .time) × RoomFor (eventOf rules q i p (g .event .time) (g .before) .sends) mails₀ o transit output
   performs i o ei eo lo lt =
       let k : length (eventOf rules q i p (g .event .time) (g .before) .sends) ≡ g .sent = ap (λ (d : Done). length (d .sends)) (event-is i ei) ∙ sym (h .sent) in
-      (readable own q mails₀ i (g .event .time) s ei (omega (arith, due-time, h .usable)), (omega (arith, h .mail), omega (arith, h .outputs)))
+      (readable own q mails₀ (g .from) i (g .event .time) s ei (omega (arith, due-time, h .usable)) (subst (λ (u : ℕ). Parted entryOf receivedAt q i u (g .from)) (sym due-time) (subst (λ (n : ℕ). Parted entryOf receivedAt q n (unreadOf own q) (g .from)) (sym ei) (h .from))), (omega (arith, h .mail), omega (arith, h .outputs)))
 
   carried : (own₁ output′ transit′ : List (List ℕ)) → length own₁ ≡ length own → savedAt own₁ (number own 2 + 1) ≡ savedAt own (number own 2) ++ (g .event ∷ [])
       → Joined (due .sends) mails₀ (number own 1) transit output transit′ output′ → Carried rules own q output transit mails₀ p (set own₁ 0 counts) output′ transit′

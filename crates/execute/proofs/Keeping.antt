@@ -18,7 +18,7 @@ use Rattle.laws.specs.Slices.{map-take-length}
 use Rattle.lawful.specs.Changes.{worked}
 use Rattle.lawful.specs.Kept.{kept}
 use Rattle.lawful.specs.Open.{lawful as sane, process-of}
-use Rattle.queue.specs.Rows.{messageOf, entries, mails}
+use Rattle.queue.specs.Rows.{messageOf, mails}
 use Rattle.definition.specs.State.{entryKey}
 use Rattle.history.specs.Laws.{savedAt-length}
 use Rattle.rule.specs.Rows.{ruleRows, processesOf, modelOf}
@@ -28,7 +28,7 @@ use Rattle.memory.specs.Laws.{Shape, ShapeAt, lawful-shape, lawful-sane, shape-
 use Rattle.memory.specs.Promise.{Kept}
 use Rattle.memory.specs.Keeping.{kept-refused, kept-done}
 use Rattle.execute.specs.declared.Due.{Due}
-use Rattle.execute.specs.declared.Plan.the-variants.{No}
+use Rattle.execute.specs.declared.Plan.the-variants.{Go, No}
 use Rattle.execute.specs.Plan.{Sound, lastOf, unreadOf, readsOf, dueOf, refusal, refusalOf, Going, Judged, Carried}
 use Rattle.execute.proofs.Calls.{not-in-model, refused, accepted}
 use Rattle.execute.proofs.Judging.{going-clear}
@@ -48,7 +48,7 @@ module _ (m : Memory) (l : lawful m ≡ true) where
   kept-outside p h = kept-refused m (Execute p) 1 (shape-shaped m shape) (ap (λ (r : Result). r .answer) (not-in-model before (lawful-sane m l) p (omega (arith, model-count m shape))))
 
   module _ (p : ℕ) (there : p < processesOf (m .model)) where
-    pub shape-here : ShapeAt m p
+    shape-here : ShapeAt m p
     shape-here = shape .at p there
 
     abbrev own : List (List ℕ)
@@ -117,9 +117,12 @@ module _ (m : Memory) (l : lawful m ≡ true) where
       pub sound-at : Sound own q k
       sound-at = subst (Sound own q) (sym ek) sound
 
-      pub kept-no : (n : ℕ) → Judged rs own q k p (No n) → Kept m (Execute p) (Refused n) m
+      pub carries-out : (g : Due) → Judged rs own q k (Go g) → Sound own q k × (((length output ≡ 64) × (length (m .transit) ≡ 128)) × Going rs own q k p g)
+      carries-out g h = (sound-at, ((shape-here .outputs, shape .transit), h p))
+
+      pub kept-no : (n : ℕ) → Judged rs own q k (No n) → Kept m (Execute p) (Refused n) m
       kept-no n h = kept-refused m (Execute p) n (shape-shaped m shape)
-          (refused before (lawful-sane m l) p in-model here few n (h .0 ∙ ap₂ (λ (r : List (List ℕ)) (j : ℕ). refusalOf r own q j p) er ek ∙ sym number-is) (h .1))
+          (refused before (lawful-sane m l) p in-model here few n (h p .0 ∙ ap₂ (λ (r : List (List ℕ)) (j : ℕ). refusalOf r own q j p) er ek ∙ sym number-is) (h p .1))
 
     -- carried out
     module _ (own′ output′ transit′ : List (List ℕ)) (g : Due) (h : Going rules own q posted p g) (c : Carried rules own q output (m .transit) posted p own′ output′ transit′)
@@ -187,13 +190,13 @@ module _ (m : Memory) (l : lawful m ≡ true) where
           (set-getD (m .inputs) p [])
           (kept-done m (Execute p) after _ [] [] (shape-shaped m shape) refl call-is (shape-lawful after after-shape after-sane))
 
-    pub kept-going : (rs : List (List ℕ)) (k j : ℕ) (row : List ℕ) (g : Due) → rs ≡ rules → k ≡ posted → j ≡ g .sent → row ≡ withMails (getD (whole m) 0 []) (k + j) → Going rs own q k p g
+    pub kept-going : (rs : List (List ℕ)) (k j : ℕ) (row : List ℕ) (g : Due) → rs ≡ rules → k ≡ posted → j ≡ g .sent → row ≡ withMails (getD (whole m) 0 []) (k + j) → Judged rs own q k (Go g)
         → (own′ output′ transit′ : List (List ℕ)) → Carried rs own q output (m .transit) k p own′ output′ transit′ → length own′ ≡ length own → length output′ ≡ length output → length transit′ ≡ length (m .transit)
         → Kept m (Execute p) (Executed (g .event .time) (g .event .read) (g .sent))
         (record { model = m .model; inputs = m .inputs; outputs = set (m .outputs) p output′; transit = transit′; own = set (set (m .own) p own′) 8 (set (getD (set (m .own) p own′) 8 []) 0 row) })
     kept-going rs k j row g er ek ej e h own′ output′ transit′ c long wide much =
         let same : withMails (getD (whole m) 0 []) (posted + g .sent) ≡ row = cc in
-        let h′ : Going rules own q posted p g = subst (λ (r : List (List ℕ)). Going r own q posted p g) er (subst (λ (n : ℕ). Going rs own q n p g) ek h) in
+        let h′ : Going rules own q posted p g = subst (λ (r : List (List ℕ)). Going r own q posted p g) er (subst (λ (n : ℕ). Going rs own q n p g) ek (h p)) in
         let c′ : Carried rules own q output (m .transit) posted p own′ output′ transit′ =
         subst (λ (r : List (List ℕ)). Carried r own q output (m .transit) posted p own′ output′ transit′) er (subst (λ (n : ℕ). Carried rs own q output (m .transit) n p own′ output′ transit′) ek c) in
         subst (λ (r : List ℕ). Kept m (Execute p) (Executed (g .event .time) (g .event .read) (g .sent))

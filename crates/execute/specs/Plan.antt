@@ -10,13 +10,13 @@ use Rattle.definition.specs.declared.Saved.{Saved}
 use Rattle.definition.specs.Lists.{inOrder}
 use Rattle.definition.specs.Message.{Message, never}
 use Rattle.definition.specs.Model.{Done}
-use Rattle.definition.specs.State.{plus, last, unreadAfter, readsAt}
+use Rattle.definition.specs.State.{plus, entryKey, last, unreadAfter, readsAt}
 use Rattle.lawful.specs.Changes.{worked}
-use Rattle.queue.specs.Rows.{entries, mails}
-use Rattle.definition.specs.State.{entryKey}
+use Rattle.queue.specs.Rows.{entryOf, entries, mails}
+use Rattle.queue.specs.Queues.{receivedAt, Parted}
 use Rattle.history.specs.Rows.{savedAt}
 use Rattle.memory.specs.Memory.{number, processOf}
-use Rattle.execute.specs.Event.{eventOf}
+use Rattle.event.specs.Event.{eventOf}
 use Rattle.execute.specs.declared.Due.{Due}
 use Rattle.execute.specs.declared.Plan.{Plan}
 use Rattle.execute.specs.declared.Plan.the-variants.{Go, No}
@@ -59,15 +59,17 @@ refusalOf rules own q mails p = refusal (unreadOf own q) (length (dueOf rules ow
 pub record Going (rules own q : List (List ℕ)) (mails p : ℕ) (g : Due) : Type 0 where
   pub event : g .event ≡ record { time = unreadOf own q; read = length (readsOf own q); stand = dueOf rules own q p .stand }
   pub usable : unreadOf own q < never
+  pub from : Parted entryOf receivedAt q (number own 0) (unreadOf own q) (g .from)
   pub sent : g .sent ≡ length (dueOf rules own q p .sends)
   pub before : g .before ≡ lastOf own .stand
   pub mail : mails + g .sent ≤ 128
   pub outputs : number own 1 + g .sent ≤ 64
   pub events : number own 2 < 32
 
-abbrev pub Judged : List (List ℕ) → List (List ℕ) → List (List ℕ) → ℕ → ℕ → Plan → Type 0
-Judged rules own q mails p (No n) = (n ≡ refusalOf rules own q mails p) × (0 < n)
-Judged rules own q mails p (Go g) = Going rules own q mails p g
+-- whichever the process, p
+abbrev pub Judged : List (List ℕ) → List (List ℕ) → List (List ℕ) → ℕ → Plan → Type 0
+Judged rules own q mails (No n) = (p : ℕ) → (n ≡ refusalOf rules own q mails p) × (0 < n)
+Judged rules own q mails (Go g) = (p : ℕ) → Going rules own q mails p g
 
 -- what is left: the process has worked its event, and what it sent is in transit
 pub record Carried (rules own q output transit : List (List ℕ)) (n p : ℕ) (own′ output′ transit′ : List (List ℕ)) : Type 0 where

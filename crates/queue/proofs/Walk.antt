@@ -1,5 +1,4 @@
--- What an event reads of a queue that is in order, row by row: forwards from the first row of its time, as the engine reads it, and from the end,
--- as it is counted.
+-- What an event reads of a queue that is in order, row by row from the first row of its time.
 use Prim.Native.Nat.{ℕ, zero, suc, _+_, _-_, _≤_, _<_, zero-le, suc-le-suc}
 use mathlib.Core.Path.{_≡_, refl, ap, sym, _∙_}
 use mathlib.Core.Bool.{Bool, true, false, cond}
@@ -7,12 +6,11 @@ use mathlib.Core.List.{List, [], _∷_, _++_, map, append-nil}
 use native.Mathlib.Omega.{arith}
 use native.Mathlib.Numerals.{add-one}
 use lib.Dec.{leb}
-use lib.ListN.{length, getD, take, drop, take-append-drop, length-map, List·getD-map}
-use lib.Seq.{getD-take, length-take-le}
+use lib.ListN.{length, getD, take, drop, length-map, List·getD-map}
 use borrow.Author.Tests.{ne-eqb, leb-true, leb-false}
 use Rattle.definition.specs.Lists.{keep, inOrder}
 use Rattle.definition.specs.State.{Entry, readsAt}
-use Rattle.laws.specs.Slices.{keep-passes, part-length, part-at, part-cons, part-none, part-back}
+use Rattle.laws.specs.Slices.{keep-passes, part-length, part-at, part-cons, part-none}
 use Rattle.queue.specs.Rows.{messageOf, entryOf, entries}
 use Rattle.queue.specs.Queues.{receivedAt, Parted, isRead, readsFrom}
 use Rattle.definition.specs.State.{entryKey}
@@ -78,22 +76,3 @@ module _ (t : ℕ) (q : List (List ℕ)) (n i : ℕ) (l : n ≤ length q) (h : i
       past : (j : ℕ) → i + j < n → getD (getD q (i + j) []) 0 0 ≡ t → ⊥
       past zero y x = let z : i + 0 ≡ i = omega arith in ne (rw z at x)
       past (suc j) y x = ne (let u = leb-true t (getD (getD q i []) 0 0) here in omega (arith, rows-rise q n l asc i (i + suc j) (omega arith) y))
-
--- from the end: one row more, and the rows before t
-module _ (t : ℕ) (q : List (List ℕ)) (n i : ℕ) (l : n ≤ length q) (p : 0 < i) (h : i ≤ n) where
-  module _ (k : ℕ) (e : k ≡ length (readsFrom t q n i)) where
-    pub one-more : isRead t (entryOf (getD q (i - 1) [])) ≡ true → k + 1 ≡ length (readsFrom t q n (i - 1))
-    one-more b = rw (part-back q n i [] p h l, reads-cons t (entryOf (getD q (i - 1) [])) (map entryOf (drop i (take n q))), b) (omega arith)
-
-    pub no-more : isRead t (entryOf (getD q (i - 1) [])) ≡ false → k ≡ length (readsFrom t q n (i - 1))
-    no-more b = rw (part-back q n i [] p h l, reads-cons t (entryOf (getD q (i - 1) [])) (map entryOf (drop i (take n q))), b) e
-
-  pub reads-rest : inOrder entryKey (entries q n) ≡ true → getD (getD q (i - 1) []) 0 0 < t → readsAt t (entries q n) ≡ readsFrom t q n i
-  reads-rest asc b =
-      let z : length (take n q) ≡ n = length-take-le n q l in
-      let y : length (take i (take n q)) ≡ i = length-take-le i (take n q) (omega arith) in
-      let e = passed t (take i (take n q)) (drop i (take n q))
-      (λ k r x. let r′ : k < i = omega arith in
-      let x′ : getD (getD q k []) 0 0 ≡ t = rw (getD-take i (take n q) k [] r′, getD-take n q k [] (omega arith)) at x in
-      omega (arith, rows-rise q n l asc k (i - 1) (omega arith) (omega arith))) in
-      rw take-append-drop at e

@@ -10,12 +10,11 @@ use crate::rows::RECEIVED;
 use crate::rows::SAME;
 ghost use mathlib.Core.Path.{_≡_};
 ghost use mathlib.Core.Bool.{true, false, cond, not};
-ghost use mathlib.Core.List.{[]};
 ghost use Prim.Native.Nat.{_+_, _-_, _≤_, _<_};
 ghost use lib.Dec.{leb, ltb, eqb};
-ghost use lib.ListN.{length, getD, take};
+ghost use lib.ListN.{length};
 ghost use Rattle.definition.specs.Lists.{keep, inOrder};
-ghost use Rattle.definition.specs.State.{Entry, counted, readsAt, unreadAfter};
+ghost use Rattle.definition.specs.State.{Entry, counted, unreadAfter};
 ghost use Rattle.definition.specs.BadState.{okNet};
 ghost use Rattle.queue.specs.Rows.{messageOf, netOf, entryOf, entries};
 ghost use Rattle.queue.specs.Queues.{receivedAt, Holds, Placed, Parted, Judged, isRead, countAt, moved, recounted, added};
@@ -187,27 +186,6 @@ pub fn is_read(e: [u32; 8], t: u32) -> bool
         return ZERO < e[COUNT];
     }
     false
-}
-
-// How many messages an event at time t reads.
-pub fn reads(q: &[[u32; 8]], n: usize, t: u32) -> usize
-    requires { ⌜ n ≤ length (now q) ⌝ }
-    requires { ⌜ inOrder entryKey (entries (now q) n) ≡ true ⌝ }
-    ensures { λ r. ⌜ r ≡ length (readsAt t (entries (now (q .entry)) n)) ⌝ }
-{
-    let mut k: usize = 0;
-    let mut i = n;
-    while 0 < i {
-        let e = q[i - 1];
-        if e[RECEIVED] < t {
-            return k;
-        }
-        if is_read(e, t) {
-            k = k + 1;
-        }
-        i = i - 1;
-    }
-    k
 }
 
 // The time t where the count is 1 or more, else the other.

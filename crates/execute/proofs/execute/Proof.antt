@@ -3,7 +3,7 @@ use Prim.Native.Nat.{_<_}
 use lib.ListN.{length-set}
 use Rattle.rule.specs.Rows.{processesOf}
 use Rattle.memory.specs.Laws.{lawful-shape}
-use Rattle.execute.proofs.Keeping.{kept-outside, kept-no, kept-going, sound-at, shape-here}
+use Rattle.execute.proofs.Keeping.{kept-outside, kept-no, kept-going, sound-at, carries-out}
 use native.Mathlib.Omega.{arith}
 use borrow.Author.Needs.{needs}
 use Rattle.execute.proofs.execute.Statement.{statement}
@@ -76,17 +76,17 @@ index-1-carry-out-2 : tie.Need-index-1-carry-out-2
 index-1-carry-out-2 c = let s = lawful-shape _ (c .before .before .before .before .before .before .before .before .before .before .before .before .before .before .before .before .before .before .before .pre) in omega (arith, s .own, s .processes, c .before .before .before .before .before .before .before .before .before .before .before .before .before .before .before .before .before .before .processes .ensures, c .before .before .before .before .before .before .before .before .before .before .before .before .before .before .before .before .before .if1 .left)
 
 carry-out-requires : tie.Need-carry-out-requires
-carry-out-requires c κs = let a = c .before .before .before .before .before .before .before .before .before .before .before .before .before .before .before .before .before .before .before .before .args in let s = lawful-shape _ (c .before .before .before .before .before .before .before .before .before .before .before .before .before .before .before .before .before .before .before .before .pre) in let t : a .process < processesOf (a .model .now) = omega (arith, c .before .before .before .before .before .before .before .before .before .before .before .before .before .before .before .before .before .before .before .processes .ensures, c .before .before .before .before .before .before .before .before .before .before .before .before .before .before .before .before .before .before .if1 .left) in let g = rw (c .before .before .before .before .before .before .plan2 .given .1) at (c .before .before .before .before .before .before .before .before .judge .ensures) in
-    (sound-at _ (c .before .before .before .before .before .before .before .before .before .before .before .before .before .before .before .before .before .before .before .before .pre) (a .process) t (c .before .before .before .before .before .before .before .before .before .before .before .before .before .rules .result .now) (c .before .before .before .before .before .before .before .before .before .before .before .before .before .before .before .before .size .result) (c .before .before .before .before .before .before .before .before .before .before .before .before .before .rules .ensures) (c .before .before .before .before .before .before .before .before .before .before .before .before .before .before .before .before .size .ensures), ((shape-here _ (c .before .before .before .before .before .before .before .before .before .before .before .before .before .before .before .before .before .before .before .before .pre) (a .process) t .outputs, s .transit), g))
+carry-out-requires c κs = let a = c .before .before .before .before .before .before .before .before .before .before .before .before .before .before .before .before .before .before .before .before .args in let t : a .process < processesOf (a .model .now) = omega (arith, c .before .before .before .before .before .before .before .before .before .before .before .before .before .before .before .before .before .before .before .processes .ensures, c .before .before .before .before .before .before .before .before .before .before .before .before .before .before .before .before .before .before .if1 .left) in
+    carries-out _ (c .before .before .before .before .before .before .before .before .before .before .before .before .before .before .before .before .before .before .before .before .pre) (a .process) t (c .before .before .before .before .before .before .before .before .before .before .before .before .before .rules .result .now) (c .before .before .before .before .before .before .before .before .before .before .before .before .before .before .before .before .size .result) (c .before .before .before .before .before .before .before .before .before .before .before .before .before .rules .ensures) (c .before .before .before .before .before .before .before .before .before .before .before .before .before .before .before .before .size .ensures) _ (rw (c .before .before .before .before .before .before .plan2 .given .1) at (c .before .before .before .before .before .before .before .before .judge .ensures))
 
 size-requires-2 : tie.Need-size-requires-2
 size-requires-2 c κs = search needs
 
 add-with-mails : tie.Need-add-with-mails
-add-with-mails c = let g = rw (c .before .before .before .before .before .before .before .before .before .plan2 .given .1) at (c .before .before .before .before .before .before .before .before .before .before .before .judge .ensures) in omega (arith, g .mail, c .size2 .ensures)
+add-with-mails c = let g = rw (c .before .before .before .before .before .before .before .before .before .plan2 .given .1) at (c .before .before .before .before .before .before .before .before .before .before .before .judge .ensures) in omega (arith, g 0 .mail, c .size2 .ensures)
 
 with-mails-requires : tie.Need-with-mails-requires
-with-mails-requires c κs = let g = rw (c .before .before .before .before .before .before .before .before .before .plan2 .given .1) at (c .before .before .before .before .before .before .before .before .before .before .before .judge .ensures) in omega (arith, g .mail, c .size2 .ensures)
+with-mails-requires c κs = let g = rw (c .before .before .before .before .before .before .before .before .before .plan2 .given .1) at (c .before .before .before .before .before .before .before .before .before .before .before .judge .ensures) in omega (arith, g 0 .mail, c .size2 .ensures)
 
 index-1-own : tie.Need-index-1-own
 index-1-own c = let s = lawful-shape _ (c .before .before .before .before .before .before .before .before .before .before .before .before .before .before .before .before .before .before .before .before .before .before .before .before .pre) in rw length-set (omega (arith, s .own))
