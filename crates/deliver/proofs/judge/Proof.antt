@@ -1,16 +1,16 @@
--- Each answer is the definition's, by what Planning says of a lawful memory.
-use native.Mathlib.Omega.{arith}
+-- The arrival is judged, then the rollback, then the room for both.
+use mathlib.Core.Path.{refl, sym, _∙_}
+use mathlib.Core.Logic.{inl, inr}
+use borrow.Author.Tests.{not-true, not-false}
+use Rattle.memory.specs.Memory.{processOf}
+use Rattle.deliver.proofs.Tests.{full, crowded}
 use borrow.Author.Needs.{needs}
-use Rattle.memory.specs.Laws.{lawful-shape}
-use Rattle.deliver.proofs.Planning.{lawful-at, nets, ordered, within, plan-none, plan-passed, plan-full, plan-crowded, plan-go}
+use native.Mathlib.Omega.{arith}
 use Rattle.deliver.proofs.judge.Statement.{statement}
 use Rattle.deliver.proofs.judge.Tie as tie
 
-index-1-whole : tie.Need-index-1-whole
-index-1-whole c = omega (arith, lawful-shape _ (c .pre) .own)
-
-index-2-whole : tie.Need-index-2-whole
-index-2-whole c = search needs
+shared-slice-copy-out-counts : tie.Need-shared-slice-copy-out-counts
+shared-slice-copy-out-counts c = search needs
 
 array-read-size : tie.Need-array-read-size
 array-read-size c = search needs
@@ -18,180 +18,86 @@ array-read-size c = search needs
 size-requires : tie.Need-size-requires
 size-requires c κs = search needs
 
-returns : tie.Need-returns
-returns c =
-    let b = c .before .before .before in
-    plan-none _ (b .pre) (b .args .place) (rw (c .before .size .ensures) at (c .if1 .taken))
-
-mul-m : tie.Need-mul-m
-mul-m c = omega (arith, c .before .size .ensures, lawful-shape _ (c .before .before .before .pre) .mail)
-
-shared-slice-copy-out-m : tie.Need-shared-slice-copy-out-m
-shared-slice-copy-out-m c =
-    let b = c .before .before .before in
-    omega (arith, c .before .size .ensures, lawful-shape _ (b .pre) .mail, lawful-shape _ (b .pre) .transit)
-
-array-read-size-2 : tie.Need-array-read-size-2
-array-read-size-2 c = search needs
-
-size-requires-2 : tie.Need-size-requires-2
-size-requires-2 c κs = search needs
-
-mul-counts : tie.Need-mul-counts
-mul-counts c =
-    let b = c .before .before .before .before .before in
-    let there = rw (c .before .before .before .size .ensures) at (c .before .before .if1 .left) in
-    let w = within _ (b .pre) (b .args .place) there _ (c .size2 .ensures) in
-    omega arith
-
-index-1-counts : tie.Need-index-1-counts
-index-1-counts c =
-    let b = c .before .before .before .before .before in
-    let there = rw (c .before .before .before .size .ensures) at (c .before .before .if1 .left) in
-    within _ (b .pre) (b .args .place) there _ (c .size2 .ensures) .own
-
-index-2-counts : tie.Need-index-2-counts
-index-2-counts c = search needs
-
-array-read-size-3 : tie.Need-array-read-size-3
-array-read-size-3 c = search needs
-
-size-requires-3 : tie.Need-size-requires-3
-size-requires-3 c κs = search needs
-
 is-anti-requires : tie.Need-is-anti-requires
 is-anti-requires c κs = search needs
 
-mul-judge : tie.Need-mul-judge
-mul-judge c =
-    let b = c .before .before .before .before .before .before .before .before in
-    let there = rw (c .before .before .before .before .before .before .size .ensures) at (c .before .before .before .before .before .if1 .left) in
-    let w = within _ (b .pre) (b .args .place) there _ (c .before .before .before .size2 .ensures) in
-    omega arith
-
-shared-slice-element-judge : tie.Need-shared-slice-element-judge
-shared-slice-element-judge c =
-    let b = c .before .before .before .before .before .before .before .before in
-    let there = rw (c .before .before .before .before .before .before .size .ensures) at (c .before .before .before .before .before .if1 .left) in
-    within _ (b .pre) (b .args .place) there _ (c .before .before .before .size2 .ensures) .inputs
-
 judge-requires : tie.Need-judge-requires
 judge-requires c κs =
-    let b = c .before .before .before .before .before .before .before .before .before .before in
-    let there = rw (c .before .before .before .before .before .before .before .before .size .ensures) at (c .before .before .before .before .before .before .before .if1 .left) in
-    let w = within _ (b .pre) (b .args .place) there _ (c .before .before .before .before .before .size2 .ensures) in
-    let a = lawful-at _ (b .pre) _ (w .known) in
-    let h = lawful-shape _ (b .pre) .at _ (w .known) in
-    rw (c .before .before .before .size3 .ensures) (omega (arith, h .inputs, h .entries), (a .input-order, nets _ (b .pre) _ (w .known)))
+    let at-size = c .before in
+    let s = at-size .before .before in
+    rw (at-size .size .ensures) (omega (arith, s .pre .0 .input-rows, s .pre .0 .few-entries), (s .pre .0 .input-order, s .pre .0 .nets))
 
-returns-2 : tie.Need-returns-2
-returns-2 c =
-    let b = c .before .before .before .before .before .before .before .before .before .before .before .before in
-    let there = rw (c .before .before .before .before .before .before .before .before .before .before .size .ensures) at (c .before .before .before .before .before .before .before .before .before .if1 .left) in
-    let arrival = rw (c .before .before .before .before .before .size3 .ensures, c .before .before .before .before .before .before .before .size2 .ensures, c .before .before .before .before .is-anti .ensures) at (c .before .judge .ensures) in
-    plan-passed _ (b .pre) (b .args .place) there _ _ arrival (c .if2 .taken)
-
-mul-roll-back : tie.Need-mul-roll-back
-mul-roll-back c =
-    let b = c .before .before .before .before .before .before .before .before .before .before .before .before in
-    let there = rw (c .before .before .before .before .before .before .before .before .before .before .size .ensures) at (c .before .before .before .before .before .before .before .before .before .if1 .left) in
-    let w = within _ (b .pre) (b .args .place) there _ (c .before .before .before .before .before .before .before .size2 .ensures) in
-    omega arith
-
-shared-slice-element-roll-back : tie.Need-shared-slice-element-roll-back
-shared-slice-element-roll-back c =
-    let b = c .before .before .before .before .before .before .before .before .before .before .before .before in
-    let there = rw (c .before .before .before .before .before .before .before .before .before .before .size .ensures) at (c .before .before .before .before .before .before .before .before .before .if1 .left) in
-    within _ (b .pre) (b .args .place) there _ (c .before .before .before .before .before .before .before .size2 .ensures) .outputs
-
-mul-roll-back-2 : tie.Need-mul-roll-back-2
-mul-roll-back-2 c =
-    let b = c .before .before .before .before .before .before .before .before .before .before .before .before .before .before in
-    let there = rw (c .before .before .before .before .before .before .before .before .before .before .before .before .size .ensures) at (c .before .before .before .before .before .before .before .before .before .before .before .if1 .left) in
-    let w = within _ (b .pre) (b .args .place) there _ (c .before .before .before .before .before .before .before .before .before .size2 .ensures) in
-    omega arith
-
-shared-slice-element-roll-back-2 : tie.Need-shared-slice-element-roll-back-2
-shared-slice-element-roll-back-2 c =
-    let b = c .before .before .before .before .before .before .before .before .before .before .before .before .before .before in
-    let there = rw (c .before .before .before .before .before .before .before .before .before .before .before .before .size .ensures) at (c .before .before .before .before .before .before .before .before .before .before .before .if1 .left) in
-    within _ (b .pre) (b .args .place) there _ (c .before .before .before .before .before .before .before .before .before .size2 .ensures) .own
+returns : tie.Need-returns
+returns c =
+    let at-judge = c .before in
+    let at-is-anti = at-judge .before in
+    let at-size = at-is-anti .before in
+    let verdict = rw (at-size .size .ensures, at-is-anti .is-anti .ensures) at (at-judge .judge .ensures) in
+    inl (refl, not-true _ (sym (verdict .passes) ∙ c .if1 .taken))
 
 array-read-roll-back : tie.Need-array-read-roll-back
 array-read-roll-back c = search needs
 
 roll-back-requires : tie.Need-roll-back-requires
-roll-back-requires c κs =
-    let b = c .before .before .before .before .before .before .before .before .before .before .before .before .before .before .before .before in
-    let there = rw (c .before .before .before .before .before .before .before .before .before .before .before .before .before .before .size .ensures) at (c .before .before .before .before .before .before .before .before .before .before .before .before .before .if1 .left) in
-    let w = within _ (b .pre) (b .args .place) there _ (c .before .before .before .before .before .before .before .before .before .before .before .size2 .ensures) in
-    ordered _ (b .pre) _ (w .known)
+roll-back-requires c κs = search needs
 
-sub-if3 : tie.Need-sub-if3
-sub-if3 c = search needs
+sub-if2 : tie.Need-sub-if2
+sub-if2 c = search needs
 
-add-if3 : tie.Need-add-if3
-add-if3 c =
-    let b = c .before .before .before .before .before .before .before .before .before .before .before .before .before .before .before .before .before .before in
-    let there = rw (c .before .before .before .before .before .before .before .before .before .before .before .before .before .before .before .before .size .ensures) at (c .before .before .before .before .before .before .before .before .before .before .before .before .before .before .before .if1 .left) in
-    let w = within _ (b .pre) (b .args .place) there _ (c .before .before .before .before .before .before .before .before .before .before .before .before .before .size2 .ensures) in
-    omega (arith, c .before .before .before .before .before .before .before .before .before .before .before .before .before .before .before .before .size .ensures, lawful-shape _ (b .pre) .mail, lawful-shape _ (b .pre) .at _ (w .known) .sends, c .before .roll-back .ensures .cancelled-sends)
+add-if2 : tie.Need-add-if2
+add-if2 c = search needs
+
+returns-2 : tie.Need-returns-2
+returns-2 c =
+    let at-roll-back = c .before .before in
+    let at-if1 = at-roll-back .before in
+    let at-judge = at-if1 .before in
+    let at-is-anti = at-judge .before in
+    let at-size = at-is-anti .before in
+    let s = at-size .before .before in
+    let verdict = rw (at-size .size .ensures, at-is-anti .is-anti .ensures) at (at-judge .judge .ensures) in
+    inr (refl, not-false _ (sym (verdict .passes) ∙ at-if1 .if1 .left), full _ _ (processOf (s .args .own .now) (s .args .inputs .now) (s .args .outputs .now)) _ (at-roll-back .roll-back .ensures .cancelled-sends ∙ at-roll-back .roll-back .ensures .sends-kept .manyAfter) (c .if2 .taken))
 
 returns-3 : tie.Need-returns-3
 returns-3 c =
-    let b = c .before .before .before .before .before .before .before .before .before .before .before .before .before .before .before .before .before .before .before in
-    let there = rw (c .before .before .before .before .before .before .before .before .before .before .before .before .before .before .before .before .before .size .ensures) at (c .before .before .before .before .before .before .before .before .before .before .before .before .before .before .before .before .if1 .left) in
-    let arrival = rw (c .before .before .before .before .before .before .before .before .before .before .before .before .size3 .ensures, c .before .before .before .before .before .before .before .before .before .before .before .before .before .before .size2 .ensures, c .before .before .before .before .before .before .before .before .before .before .before .is-anti .ensures) at (c .before .before .before .before .before .before .before .before .judge .ensures) in
-    let back = rw (c .before .before .before .before .before .before .before .before .before .before .before .before .before .before .size2 .ensures) at (c .before .before .roll-back .ensures) in
-    plan-full _ (b .pre) (b .args .place) there _ _ arrival (c .before .before .before .before .before .before .before .if2 .left) _ back (rw (c .before .before .before .before .before .before .before .before .before .before .before .before .before .before .before .before .before .size .ensures) at (c .if3 .taken))
+    let at-if1 = c .before .before .before .before .before in
+    let at-judge = at-if1 .before in
+    let at-is-anti = at-judge .before in
+    let at-size = at-is-anti .before in
+    let s = at-size .before .before in
+    let verdict = rw (at-size .size .ensures, at-is-anti .is-anti .ensures) at (at-judge .judge .ensures) in
+    inr (refl, not-false _ (sym (verdict .passes) ∙ at-if1 .if1 .left), crowded _ _ (processOf (s .args .own .now) (s .args .inputs .now) (s .args .outputs .now)) _ (verdict .rows) (c .if3 .taken))
 
 returns-4 : tie.Need-returns-4
 returns-4 c =
-    let b = c .before .before .before .before .before .before .before .before .before .before .before .before .before .before .before .before .before .before .before .before .before in
-    let there = rw (c .before .before .before .before .before .before .before .before .before .before .before .before .before .before .before .before .before .before .before .size .ensures) at (c .before .before .before .before .before .before .before .before .before .before .before .before .before .before .before .before .before .before .if1 .left) in
-    let arrival = rw (c .before .before .before .before .before .before .before .before .before .before .before .before .before .before .size3 .ensures, c .before .before .before .before .before .before .before .before .before .before .before .before .before .before .before .before .size2 .ensures, c .before .before .before .before .before .before .before .before .before .before .before .before .before .is-anti .ensures) at (c .before .before .before .before .before .before .before .before .before .before .judge .ensures) in
-    let back = rw (c .before .before .before .before .before .before .before .before .before .before .before .before .before .before .before .before .size2 .ensures) at (c .before .before .before .before .roll-back .ensures) in
-    plan-crowded _ (b .pre) (b .args .place) there _ _ arrival (c .before .before .before .before .before .before .before .before .before .if2 .left) _ back (c .if4 .taken)
-
-returns-5 : tie.Need-returns-5
-returns-5 c =
-    let b = c .before .before .before .before .before .before .before .before .before .before .before .before .before .before .before .before .before .before .before .before .before in
-    let there = rw (c .before .before .before .before .before .before .before .before .before .before .before .before .before .before .before .before .before .before .before .size .ensures) at (c .before .before .before .before .before .before .before .before .before .before .before .before .before .before .before .before .before .before .if1 .left) in
-    let arrival = rw (c .before .before .before .before .before .before .before .before .before .before .before .before .before .before .size3 .ensures, c .before .before .before .before .before .before .before .before .before .before .before .before .before .before .before .before .size2 .ensures, c .before .before .before .before .before .before .before .before .before .before .before .before .before .is-anti .ensures) at (c .before .before .before .before .before .before .before .before .before .before .judge .ensures) in
-    let back = rw (c .before .before .before .before .before .before .before .before .before .before .before .before .before .before .before .before .size2 .ensures) at (c .before .before .before .before .roll-back .ensures) in
-    plan-go _ (b .pre) (b .args .place) there _ _ arrival (c .before .before .before .before .before .before .before .before .before .if2 .left) _ back (rw (c .before .before .before .before .before .before .before .before .before .before .before .before .before .before .before .before .before .before .before .size .ensures) at (c .before .before .if3 .left)) (c .if4 .left)
+    let at-if2 = c .before .before in
+    let at-roll-back = at-if2 .before .before in
+    let at-if1 = at-roll-back .before in
+    let at-judge = at-if1 .before in
+    let at-is-anti = at-judge .before in
+    let at-size = at-is-anti .before in
+    let verdict = rw (at-size .size .ensures, at-is-anti .is-anti .ensures) at (at-judge .judge .ensures) in
+    record {
+      rolled = at-roll-back .roll-back .ensures;
+      nets = not-false _ (sym (verdict .passes) ∙ at-if1 .if1 .left);
+      input-room = omega (arith, verdict .rows, c .if3 .left);
+      transit-room = omega (arith, at-if2 .if2 .left);
+    }
 
 pub judge-spec : {M : Type 1} → statement M
 judge-spec =
     tie.close
     (tie.spec
-    index-1-whole
-    index-2-whole
+    shared-slice-copy-out-counts
     array-read-size
     size-requires
-    returns
-    mul-m
-    shared-slice-copy-out-m
-    array-read-size-2
-    size-requires-2
-    mul-counts
-    index-1-counts
-    index-2-counts
-    array-read-size-3
-    size-requires-3
     is-anti-requires
-    mul-judge
-    shared-slice-element-judge
     judge-requires
-    returns-2
-    mul-roll-back
-    shared-slice-element-roll-back
-    mul-roll-back-2
-    shared-slice-element-roll-back-2
+    returns
     array-read-roll-back
     roll-back-requires
-    sub-if3
-    add-if3
+    sub-if2
+    add-if2
+    returns-2
     returns-3
-    returns-4
-    returns-5)
+    returns-4)
