@@ -1,19 +1,18 @@
--- The least of the receive times that count, row by row from the end: the unread time of a queue that is in order, and the least receive time in
--- transit.
+-- The least of the receive times that count: the unread time of a queue that is in order, row by row from the front, and the least receive time in
+-- transit, from the end.
 use Prim.Native.Nat.{ℕ, suc, _+_, _-_, _≤_, _<_, min, zero-le, suc-le-suc}
 use mathlib.Core.Path.{_≡_, refl, sym, _∙_}
 use mathlib.Core.Bool.{Bool, true, false, cond, _&&_}
-use mathlib.Core.List.{List, [], _∷_, _++_, map}
+use mathlib.Core.List.{List, [], _∷_, map}
 use native.Mathlib.Omega.{arith}
+use native.Mathlib.Numerals.{add-one}
 use lib.Dec.{ltb}
-use lib.ListN.{length, getD, take, drop, take-append-drop}
-use lib.Seq.{getD-take, length-take-le}
-use borrow.Author.Tests.{lt-ltb, le-ltb}
+use lib.ListN.{length, getD, take, drop}
 use Rattle.definition.specs.Lists.{inOrder}
 use Rattle.definition.specs.Message.{never}
 use Rattle.definition.specs.State.{Entry, unreadAfter}
 use Rattle.definition.specs.Calls.{leastMail}
-use Rattle.laws.specs.Slices.{part-length, part-at, part-none, part-back}
+use Rattle.laws.specs.Slices.{part-length, part-at, part-cons, part-none, part-back}
 use Rattle.queue.specs.Rows.{entryOf, entries, mailOf}
 use Rattle.definition.specs.State.{entryKey}
 use Rattle.queue.proofs.Nets.{net-positive}
@@ -41,35 +40,26 @@ bounded t x (e ∷ l) h f =
     let v : x ≤ getD e 0 0 = f 0 (suc-le-suc zero-le) in
     rw (unread-row t e (map entryOf l)) (cond-le (ltb t (getD e 0 0) && ltb 256 (getD e 7 0)) x _ _ (omega arith) u)
 
--- rows that are not after t are passed over
-read-rows : (t : ℕ) (a b : List (List ℕ)) → ((k : ℕ) → k < length a → getD (getD a k []) 0 0 ≤ t) → unreadAfter t (map entryOf (a ++ b)) ≡ unreadAfter t (map entryOf b)
-read-rows t [] b f = refl
-read-rows t (e ∷ a) b f = unread-row t e (map entryOf (a ++ b)) ∙ rw (le-ltb t (getD e 0 0) (f 0 (suc-le-suc zero-le))) (read-rows t a b (λ k p. f (suc k) (suc-le-suc p)))
-
+-- the walk from the front: what is left of the rows has the unread time of all, until the first that is unread
 pub unread-none : (t : ℕ) (q : List (List ℕ)) (n : ℕ) → n ≤ length q → never ≡ unreadAfter t (map entryOf (drop n (take n q)))
 unread-none t q n l = rw (part-none q n l) (sym (unread-nil t))
 
-module _ (t : ℕ) (q : List (List ℕ)) (n i best : ℕ) (l : n ≤ length q) (asc : inOrder entryKey (entries q n) ≡ true) (p : 0 < i) (h : i ≤ n) (b : best ≡ unreadAfter t (map entryOf (drop i (take n q)))) where
-  -- a turn: one row more that is after t
-  pub unread-step : getD (getD q (i - 1) []) 0 0 ≤ never → t < getD (getD q (i - 1) []) 0 0 → cond (ltb 256 (getD (getD q (i - 1) []) 7 0)) (getD (getD q (i - 1) []) 0 0) best ≡ unreadAfter t (map entryOf (drop (i - 1) (take n q)))
-  unread-step w g =
-      let z : length (drop i (take n q)) ≡ n - i = part-length q i n l in
-      let x = getD (getD q (i - 1) []) 0 0 in
-      let u : x ≤ unreadAfter t (map entryOf (drop i (take n q))) =
-      bounded t x (drop i (take n q)) w
-      (λ k r. let y : i + k < n = omega arith in rw (part-at q i n k [] y) (rows-rise q n l asc (i - 1) (i + k) (omega arith) y)) in
-      let m : min x (unreadAfter t (map entryOf (drop i (take n q)))) ≡ x = omega arith in
-      rw (part-back q n i [] p h l, b) (sym (unread-row t (getD q (i - 1) []) (map entryOf (drop i (take n q))) ∙ rw (lt-ltb t x g, m)))
+module _ (t : ℕ) (q : List (List ℕ)) (n i : ℕ) (l : n ≤ length q) (h : i < n) where
+  abbrev isUnread : Bool
+  isUnread = ltb t (getD (getD q i []) 0 0) && ltb 256 (getD (getD q i []) 7 0)
 
-  -- the end: a row that is not after t
-  pub unread-end : getD (getD q (i - 1) []) 0 0 ≤ t → best ≡ unreadAfter t (entries q n)
-  unread-end g =
-      let z : length (take n q) ≡ n = length-take-le n q l in
-      let y : length (take i (take n q)) ≡ i = length-take-le i (take n q) (omega arith) in
-      let e = read-rows t (take i (take n q)) (drop i (take n q))
-      (λ k r. let r′ : k < i = omega arith in
-      rw (getD-take i (take n q) k [] r′, getD-take n q k [] (omega arith)) (omega (arith, rows-rise q n l asc k (i - 1) (omega arith) (omega arith)))) in
-      b ∙ sym (rw take-append-drop at e)
+  pub unread-skip : isUnread ≡ false → unreadAfter t (map entryOf (drop i (take n q))) ≡ unreadAfter t (map entryOf (drop (i + 1) (take n q)))
+  unread-skip e = rw (part-cons q i n [] h l, add-one i) (unread-row t (getD q i []) (map entryOf (drop (suc i) (take n q))) ∙ rw e)
+
+  pub unread-here : inOrder entryKey (entries q n) ≡ true → getD (getD q i []) 0 0 ≤ never → isUnread ≡ true → getD (getD q i []) 0 0 ≡ unreadAfter t (map entryOf (drop i (take n q)))
+  unread-here asc w e =
+      let x = getD (getD q i []) 0 0 in
+      let z : length (drop (suc i) (take n q)) ≡ n - suc i = part-length q (suc i) n l in
+      let u : x ≤ unreadAfter t (map entryOf (drop (suc i) (take n q))) =
+      bounded t x (drop (suc i) (take n q)) w
+      (λ k r. let y : suc i + k < n = omega arith in rw (part-at q (suc i) n k [] y) (rows-rise q n l asc i (suc i + k) (omega arith) y)) in
+      let m : min x (unreadAfter t (map entryOf (drop (suc i) (take n q)))) ≡ x = omega arith in
+      rw (part-cons q i n [] h l) (sym (unread-row t (getD q i []) (map entryOf (drop (suc i) (take n q))) ∙ rw (e, m)))
 
 -- ---- the least receive time in transit
 

@@ -1,6 +1,6 @@
 // The input queue of one process: rows in the reading order, each a message and its net count + 256.
-// An arrival writes the row at its place and moves only the rows after it, by one: up where it is new, down where its count becomes 0. Scans go
-// from the end, where the unread rows are, so that they cost as many steps as there are such rows.
+// An arrival writes the row at its place and moves only the rows after it, by one: up where it is new, down where its count becomes 0. Its place is
+// looked for from the end, where what is yet to come stands; what an event reads from the front, since an advance drops what was read.
 use crate::facts;
 use crate::rows;
 use crate::rows::AFTER;
@@ -9,7 +9,7 @@ use crate::rows::NEVER;
 use crate::rows::RECEIVED;
 use crate::rows::SAME;
 ghost use mathlib.Core.Path.{_≡_};
-ghost use mathlib.Core.Bool.{true, false, cond, not};
+ghost use mathlib.Core.Bool.{true, false, cond, not, _&&_};
 ghost use Prim.Native.Nat.{_+_, _-_, _≤_, _<_};
 ghost use lib.Dec.{leb, ltb, eqb};
 ghost use lib.ListN.{length};
@@ -164,7 +164,15 @@ pub fn received_before(q: &[[u32; 8]], n: usize, t: u32) -> usize
     requires { ⌜ inOrder entryKey (entries (now q) n) ≡ true ⌝ }
     ensures { λ r. ⌜ Parted entryOf receivedAt (now (q .entry)) n t r ⌝ }
 {
-    rows::below(q, n, RECEIVED, t)
+    let mut k: usize = 0;
+    while k < n {
+        let e = q[k];
+        if t <= e[RECEIVED] {
+            return k;
+        }
+        k = k + 1;
+    }
+    n
 }
 
 // Entries received before t are dropped: the others move down. The answer is how many rows the queue has now.
@@ -188,11 +196,14 @@ pub fn is_read(e: [u32; 8], t: u32) -> bool
     false
 }
 
-// The time t where the count is 1 or more, else the other.
-fn nearer(best: u32, t: u32, c: u32) -> u32
-    ensures { λ r. ⌜ r ≡ cond (ltb 256 c) t best ⌝ }
+// An entry received at t, of count c, is unread after a time.
+fn is_unread(t: u32, c: u32, after: u32) -> bool
+    ensures { λ r. ⌜ r ≡ ltb after t && ltb 256 c ⌝ }
 {
-    if ZERO < c { t } else { best }
+    if t <= after {
+        return false;
+    }
+    ZERO < c
 }
 
 // The unread time after a time.
@@ -201,16 +212,14 @@ pub fn unread(q: &[[u32; 8]], n: usize, after: u32) -> u32
     requires { ⌜ inOrder entryKey (entries (now q) n) ≡ true ⌝ }
     ensures { λ r. ⌜ r ≡ unreadAfter after (entries (now (q .entry)) n) ⌝ }
 {
-    let mut best: u32 = NEVER;
-    let mut i = n;
-    while 0 < i {
-        let e = q[i - 1];
+    let mut k: usize = 0;
+    while k < n {
+        let e = q[k];
         let t = facts::word(e[RECEIVED]);
-        if t <= after {
-            return best;
+        if is_unread(t, e[COUNT], after) {
+            return t;
         }
-        best = nearer(best, t, e[COUNT]);
-        i = i - 1;
+        k = k + 1;
     }
-    best
+    NEVER
 }
