@@ -1,11 +1,11 @@
 -- What the rows of a model in lent memory say: a model of the definition. Every list of rows says one, however damaged.
 --   model[p][0]     rule count, first mode, first tally; of process 0 also the process count
 --   model[p][1 ..]  the rules: mode, kind, next mode, effect, its number, send count, then twice: receiver, delay, kind, value, its number
-use mathlib.Core.Bool.{Bool, _&&_}
+use mathlib.Core.Bool.{Bool, _&&_, _||_}
 use mathlib.Core.List.{List, [], _∷_, _++_, map}
 use mathlib.Core.Option.{Option, none, some}
 use Prim.Native.Nat.{ℕ, zero, suc, _+_}
-use lib.Dec.{leb, eqb}
+use lib.Dec.{leb, ltb, eqb}
 use lib.ListN.{length, getD, take, drop}
 use Rattle.definition.specs.declared.Effect.{Effect}
 use Rattle.definition.specs.declared.Effect.the-variants.{Keep, Set, Add, AddRead}
@@ -116,8 +116,12 @@ standAfter (some r) s v = record { mode = r .next; tally = effectOn (r .effect) 
 
 -- ---- the shape: as many rows as there must be, counts within them, effects and values among those that there are
 
+-- the tag of a value, in the rule's send of this number, counted from 1: it is one of three, or the rule has no such send and the word says nothing
+abbrev pub shapedTag : ℕ → ℕ → ℕ → Bool
+shapedTag tag sends number = leb tag 2 || ltb sends number
+
 abbrev pub shapedRule : List ℕ → Bool
-shapedRule r = leb (getD r 3 0) 3 && (leb (getD r 5 0) 2 && (leb (getD r 9 0) 2 && leb (getD r 14 0) 2))
+shapedRule r = leb (getD r 3 0) 3 && (leb (getD r 5 0) 2 && (shapedTag (getD r 9 0) (getD r 5 0) 1 && shapedTag (getD r 14 0) (getD r 5 0) 2))
 
 unfoldable pub shapedSetup : List (List ℕ) → Bool
 unfolding all

@@ -13,7 +13,7 @@ use Rattle.definition.specs.declared.Send.{Send}
 use Rattle.definition.specs.Lists.{all}
 use Rattle.definition.specs.Model.{okEffect, okValue, okSend, okRule}
 use Rattle.rule.specs.declared.Decoded.{Decoded}
-use Rattle.rule.specs.Rows.{ruleOf, shapedRule}
+use Rattle.rule.specs.Rows.{ruleOf, shapedTag, shapedRule}
 
 -- ---- one send
 
@@ -47,11 +47,11 @@ module _ (r : List ℕ) where
     shape-sends h = rw (le-leb (getD r 3 0) 3 e, lt-leb (getD r 5 0) 2 h)
 
     module _ (s : getD r 5 0 ≤ 2) where
-      pub shape-first : 2 < getD r 9 0 → false ≡ shapedRule r
-      shape-first h = rw (le-leb (getD r 3 0) 3 e, le-leb (getD r 5 0) 2 s, lt-leb (getD r 9 0) 2 h)
+      pub shape-first : shapedTag (getD r 9 0) (getD r 5 0) 1 ≡ false → false ≡ shapedRule r
+      shape-first h = rw (le-leb (getD r 3 0) 3 e, le-leb (getD r 5 0) 2 s, h)
 
-      pub shape-second : getD r 9 0 ≤ 2 → leb (getD r 14 0) 2 ≡ shapedRule r
-      shape-second h = rw (le-leb (getD r 3 0) 3 e, le-leb (getD r 5 0) 2 s, le-leb (getD r 9 0) 2 h)
+      pub shape-second : shapedTag (getD r 9 0) (getD r 5 0) 1 ≡ true → shapedTag (getD r 14 0) (getD r 5 0) 2 ≡ shapedRule r
+      shape-second h = rw (le-leb (getD r 3 0) 3 e, le-leb (getD r 5 0) 2 s, h)
 
 -- ---- one rule
 

@@ -6,7 +6,7 @@ ghost use Prim.Native.Nat.{_≤_, _<_};
 ghost use lib.ListN.{length, take, drop};
 ghost use Rattle.definition.specs.Lists.{all, compareKeys, isLess};
 ghost use Rattle.definition.specs.Model.{okEffect, okValue, okSend, okRule};
-ghost use Rattle.rule.specs.Rows.{ruleOf, shapedRule, lawfulModel};
+ghost use Rattle.rule.specs.Rows.{ruleOf, shapedTag, shapedRule, lawfulModel};
 ghost use Rattle.rulecheck.specs.Check.{okRow, ascends, okRows, okProcess};
 use definition::Effect;
 use definition::Send;
@@ -105,20 +105,31 @@ fn ok_rule(rule: Decoded, processes: u32) -> bool
     ok_sends(rule, processes)
 }
 
+// The tag of a value is one of three, or the rule has no send of this number and the word says nothing.
+fn is_tag(tag: u32, sends: u32, number: u32) -> bool
+    ensures { λ r. ⌜ r ≡ shapedTag tag sends number ⌝ }
+{
+    if tag <= 2 {
+        return true;
+    }
+    sends < number
+}
+
 // Counts and tags: a rule's effect, its send count and the values of its sends are among those that there are.
 fn shaped(row: [u32; 16]) -> bool
     ensures { λ r. ⌜ r ≡ shapedRule row ⌝ }
 {
+    let sends = row[SENDS];
     if 3 < row[EFFECT] {
         return false;
     }
-    if 2 < row[SENDS] {
+    if 2 < sends {
         return false;
     }
-    if 2 < row[FIRST + 3] {
+    if !is_tag(row[FIRST + 3], sends, 1) {
         return false;
     }
-    row[SECOND + 3] <= 2
+    is_tag(row[SECOND + 3], sends, 2)
 }
 
 fn ok_row(row: [u32; 16], processes: u32) -> bool
