@@ -1,7 +1,7 @@
 -- The buffer that a call is lent: an advance's is as long as the call says, and no other call has bytes to write.
 use mathlib.Core.Path.{_≡_, refl}
-use mathlib.Core.Bool.{Bool, true, false, not, _||_}
-use mathlib.Core.List.{List, []}
+use mathlib.Core.Bool.{Bool, true, false, not}
+use mathlib.Core.List.{List}
 use Prim.Native.Nat.{ℕ, zero, suc}
 use lib.ListN.{length}
 use Rattle.definition.specs.declared.Answer.{Answer}
@@ -10,9 +10,9 @@ use Rattle.definition.specs.declared.Call.the-variants.{Inject, Deliver, Execut
 use Rattle.definition.specs.ModelBytes.{Parsed, Got, Fault, andThen, field}
 use Rattle.definition.specs.Program.{bufferLength, argument, callBy, callAt}
 use Rattle.definition.specs.Record.{onto}
-use Rattle.definition.specs.State.{State}
-use Rattle.definition.specs.Calls.{Result, check, inject, deliver, execute}
+use Rattle.definition.specs.Calls.{check}
 use Rattle.definition.specs.BadState.{call}
+use Rattle.lawful.specs.Written.{isAdvance, no-bytes}
 use Rattle.memory.specs.Memory.{Memory, stateOf, shaped}
 use Rattle.memory.specs.Promise.{due, Kept, Committed}
 
@@ -23,39 +23,14 @@ roomOf (Deliver place) n = n
 roomOf (Execute process) n = n
 roomOf (Advance ceiling room) n = room
 
-module _ (s : State) where
-  -- one test more before what has no bytes
-  test : (b : Bool) (n : ℕ) (r : Result) → r .bytes ≡ [] → check b n s r .bytes ≡ []
-  unfolding check
-  test true n r h = refl
-  test false n r h = h
-
-  inject-bytes : (n p t k v : ℕ) → call s (Inject n p t k v) .bytes ≡ []
-  unfolding call inject
-  inject-bytes n p t k v = test _ 16 _ (test _ 1 _ (test _ 2 _ (test _ 3 _ (test _ 4 _ (test _ 7 _ refl)))))
-
-  deliver-bytes : (i : ℕ) → call s (Deliver i) .bytes ≡ []
-  unfolding call deliver
-  deliver-bytes i = test _ 16 _ (test _ 5 _ (test _ 7 _ refl))
-
-  execute-bytes : (p : ℕ) → call s (Execute p) .bytes ≡ []
-  unfolding call execute
-  execute-bytes p = test _ 16 _ (test _ 1 _ (test _ 6 _ (test _ 7 _ refl)))
-
--- so the buffer is left as it was
-module _ {m : Memory} {a : Answer} {w : Memory} (b : List ℕ) where
-  none : (c : Call) → call (stateOf m) c .bytes ≡ [] → Kept m c a w → Committed m c a w b b
-  unfolding due onto
-  none c h k = let e : due m c .bytes ≡ [] = test (stateOf m) (not (shaped m)) 16 (call (stateOf m) c) h in record { kept = k; buffer = rw e refl }
-
-  pub inject-commits : (n p t k v : ℕ) → Kept m (Inject n p t k v) a w → Committed m (Inject n p t k v) a w b b
-  inject-commits n p t k v = none (Inject n p t k v) (inject-bytes (stateOf m) n p t k v)
-
-  pub deliver-commits : (i : ℕ) → Kept m (Deliver i) a w → Committed m (Deliver i) a w b b
-  deliver-commits i = none (Deliver i) (deliver-bytes (stateOf m) i)
-
-  pub execute-commits : (p : ℕ) → Kept m (Execute p) a w → Committed m (Execute p) a w b b
-  execute-commits p = none (Execute p) (execute-bytes (stateOf m) p)
+-- a call that is no advance leaves the buffer as it was
+pub none-written : {m : Memory} {a : Answer} {w : Memory} (b : List ℕ) (c : Call) → isAdvance c ≡ false → Kept m c a w → Committed m c a w b b
+unfolding due check onto
+none-written {m} b c other k = record { kept = k; buffer = go (shaped m) }
+  where
+    go : (shape : Bool) → b ≡ onto (check (not shape) 16 (stateOf m) (call (stateOf m) c) .bytes) b
+    go true = rw (no-bytes (stateOf m) c other) refl
+    go false = refl
 
 -- an advance writes
 pub advance-commits : {m : Memory} {a : Answer} {w : Memory} {b d : List ℕ} (c : Call) (ceiling room : ℕ) → c ≡ Advance ceiling room → roomOf c (length b) ≡ length b

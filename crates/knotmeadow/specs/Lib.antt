@@ -1,2 +1,3 @@
 pub mod Told
 pub mod Zero
+pub mod Links

@@ -13,7 +13,7 @@ use Rattle.definition.specs.State.{State}
 use Rattle.definition.specs.Record.{onto}
 use Rattle.definition.specs.Calls.{Result}
 use Rattle.definition.specs.BadState.{call}
-use Rattle.definition.specs.Rehearsal.{Rehearsal, after, calls}
+use Rattle.definition.specs.Rehearsal.{Rehearsal, after, calls, answersOf}
 use Rattle.memory.specs.Memory.{Memory, Rows, stateOf, lawful}
 use Rattle.run.specs.declared.Ran.the-variants.{Done}
 use Rattle.run.specs.declared.Turn.the-variants.{Make, Stop}
@@ -54,7 +54,7 @@ pub record Running (bs : List ℕ) (m : Memory) (answers : Rows) (committed : Li
 
 module _ (bs : List ℕ) (m : Memory) (answers : Rows) (committed : List ℕ) where
   pub running-first : lawful m ≡ true → Running bs m answers committed m answers committed 0 0 0
-  unfolding calls rowsOf onto
+  unfolding calls rowsOf answersOf onto
   running-first l =
       record {
         done = [];

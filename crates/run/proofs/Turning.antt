@@ -15,7 +15,8 @@ use Rattle.memory.specs.Memory.{Memory, Rows, stateOf, shaped, lawful}
 use Rattle.memory.specs.Laws.{lawful-shape, shape-shaped}
 use Rattle.memory.specs.Keeping.{check-no}
 use Rattle.memory.specs.Promise.{due, Committed}
-use Rattle.run.specs.Rows.{rowOf, writtenOf, told-bytes}
+use Rattle.lawful.specs.Written.{writtenOf, told-bytes}
+use Rattle.run.specs.Rows.{rowOf}
 use Rattle.run.specs.Promise.{Turned}
 
 -- ---- a part of the record

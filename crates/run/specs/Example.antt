@@ -9,7 +9,7 @@ use lib.ListN.{length, drop, getD}
 use Rattle.definition.specs.Calls.{check, started}
 use Rattle.definition.specs.Message.{never}
 use Rattle.definition.specs.Record.{onto}
-use Rattle.definition.specs.Rehearsal.{rehearsal}
+use Rattle.definition.specs.Rehearsal.{answersOf, rehearsal}
 use Rattle.demands.specs.Cases.{example, whole}
 use Rattle.rule.specs.Rows.{modelOf}
 use Rattle.memory.specs.Memory.{Memory, Rows}
@@ -51,7 +51,7 @@ wholeRows =
     ∷ (0 ∷ never ∷ 5 ∷ 25 ∷ []) ∷ (2 ∷ 0 ∷ 0 ∷ 0 ∷ []) ∷ (4 ∷ 0 ∷ 0 ∷ 0 ∷ []) ∷ []
 
 example-rows : rowsOf (started example) whole ≡ wholeRows
-unfolding rowsOf check started
+unfolding rowsOf answersOf check started
 example-rows = refl
 
 abbrev wholeRecord : List ℕ

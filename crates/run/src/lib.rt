@@ -9,9 +9,10 @@ ghost use Prim.Native.Nat.{_+_, _≤_, _<_};
 ghost use lib.ListN.{length};
 ghost use Rattle.definition.specs.Program.{bufferLength};
 ghost use Rattle.calls.specs.Lent.{roomOf};
+ghost use Rattle.lawful.specs.Written.{writtenOf};
 ghost use Rattle.memory.specs.Promise.{Ready, isRefusal};
 ghost use Rattle.run.specs.Made.{turnOf};
-ghost use Rattle.run.specs.Rows.{rowOf, writtenOf};
+ghost use Rattle.run.specs.Rows.{rowOf};
 ghost use Rattle.run.specs.Promise.{TurnsAt, WorksAt, RunsAt};
 
 // How many calls were made, the place of the next one, and how many bytes of the record were written; or the refusal.

@@ -1,6 +1,7 @@
 -- Each call keeps its own promise; all but an advance leave the buffer as it was.
+use mathlib.Core.Path.{refl}
 use borrow.Author.Needs.{needs}
-use Rattle.calls.specs.Lent.{inject-commits, deliver-commits, execute-commits, advance-commits}
+use Rattle.calls.specs.Lent.{none-written, advance-commits}
 use Rattle.calls.proofs.make.Statement.{statement}
 use Rattle.calls.proofs.make.Tie as tie
 
@@ -41,7 +42,7 @@ same-length-4 : tie.Need-same-length-4
 same-length-4 c = search needs
 
 returns : tie.Need-returns
-returns c = rw (c .before .before .before .before .before .before .before .before .call .given .1) (inject-commits _ _ _ _ _ _ (c .before .before .inject .ensures))
+returns c = rw (c .before .before .before .before .before .before .before .before .call .given .1) (none-written _ _ refl (c .before .before .inject .ensures))
 
 same-length-5 : tie.Need-same-length-5
 same-length-5 c = search needs
@@ -56,7 +57,7 @@ same-length-8 : tie.Need-same-length-8
 same-length-8 c = search needs
 
 returns-2 : tie.Need-returns-2
-returns-2 c = rw (c .before .before .before .before .before .before .before .before .before .call2 .given .1) (deliver-commits _ _ (c .before .before .before .deliver .ensures))
+returns-2 c = rw (c .before .before .before .before .before .before .before .before .before .call2 .given .1) (none-written _ _ refl (c .before .before .before .deliver .ensures))
 
 same-length-9 : tie.Need-same-length-9
 same-length-9 c = search needs
@@ -71,7 +72,7 @@ same-length-12 : tie.Need-same-length-12
 same-length-12 c = search needs
 
 returns-3 : tie.Need-returns-3
-returns-3 c = rw (c .before .before .before .before .before .before .before .before .before .call3 .given .1) (execute-commits _ _ (c .before .before .before .execute .ensures))
+returns-3 c = rw (c .before .before .before .before .before .before .before .before .before .call3 .given .1) (none-written _ _ refl (c .before .before .before .execute .ensures))
 
 same-length-13 : tie.Need-same-length-13
 same-length-13 c = search needs
