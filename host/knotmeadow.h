@@ -1,7 +1,8 @@
 /* The rehearsal engine for hosts in C. The functions are those of the crate knotmeadow; crates/knotmeadow/src/lib.rt has their contracts, which are
    proved. Link target/staticlib/libknotmeadow.a, which `rt staticlib knotmeadow` writes. x86-64 only.
 
-   A result is document 01's number, 0 for none. A refusal writes nothing but, where a function says so, the place of the fault.
+   A result is document 01's number, 0 for none. A refusal writes nothing; `place`, where a function has it, is part of the answer: a fault
+   in bytes is a number and its place.
 
    What no contract can see is the host's to keep: a pointer is to as many things as its length says (a single thing where it has none), is aligned
    for them and is not null, even where the length is 0; what is written overlaps nothing else that is lent to the same call; and while a call

@@ -1,5 +1,5 @@
 -- What a host in another language is told. The result of a function is document 01's number, 0 for none, and what else there is to tell is put into
--- lent words; a refusal puts nothing into words that hold values. Each promise names what is due: a function of the memory, the bytes and the
+-- lent words; a refusal puts nothing into words that hold values, and the place of a fault in bytes is part of the answer. Each promise names what is due: a function of the memory, the bytes and the
 -- arguments at entry, so that one result, one list of words and one state keep it.
 use mathlib.Core.Path.{_≡_}
 use mathlib.Core.Bool.{cond}
