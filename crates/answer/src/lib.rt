@@ -2,7 +2,7 @@
 ghost use mathlib.Core.Path.{_≡_};
 ghost use Rattle.definition.specs.Model.{find as firstRule, setup};
 ghost use Rattle.rule.specs.Rows.{modelOf, standAfter};
-ghost use Rattle.found.specs.Search.{foundOf};
+ghost use Rattle.answer.specs.Search.{foundFor};
 use definition::Stand;
 use found::Found;
 
@@ -14,7 +14,7 @@ fn size(x: u32) -> usize
 
 // The rule of a process for a mode and a kind: none for a process not in the model.
 pub fn find(model: &[[[u32; 16]; 65]], process: usize, mode: u32, kind: u32) -> Found
-    ensures { λ r. ⌜ foundOf r ≡ firstRule (setup (modelOf (now (model .entry))) process .rules) mode kind ⌝ }
+    ensures { λ r. ⌜ r ≡ foundFor (now (model .entry)) process mode kind ⌝ }
 {
     if size(table::processes(model)) <= process {
         return Found::Nothing;

@@ -3,7 +3,7 @@ use Prim.Native.Nat.{ℕ, zero, suc, _+_, _≤_, min}
 use mathlib.Core.Path.{_≡_, refl, sym, ap, _∙_, subst}
 use mathlib.Core.Bool.{Bool, true, false, cond}
 use mathlib.Core.List.{List, [], _∷_, _++_, map, append-nil}
-use mathlib.Core.Option.{none, some}
+use mathlib.Core.Option.{some}
 use native.Mathlib.Omega.{arith}
 use native.Mathlib.Numerals.{add-one}
 use lib.Dec.{leb}
@@ -17,6 +17,9 @@ use Rattle.queue.specs.Rows.{messageOf, messageFrom, entryOf}
 use Rattle.queue.specs.Queues.{isRead}
 use Rattle.rule.specs.declared.Decoded.{Decoded}
 use Rattle.rule.specs.Rows.{ruleOf, ruleAt}
+use Rattle.found.specs.declared.Found.{Found}
+use Rattle.found.specs.declared.Found.the-variants.{Rule as Match, Nothing}
+use Rattle.found.specs.Search.{foundAmong, finds}
 use Rattle.event.specs.declared.Walk.{Walk}
 use Rattle.event.specs.Event.{Counted, Within, Moved, Answered, readOf, doneFrom, RowRead}
 
@@ -157,18 +160,22 @@ module _ (rules : List (List ℕ)) (t : ℕ) (e : List ℕ) (w : Walk) where
   abbrev row : ℕ → Done
   row p = doneFrom rules p t w (readOf t e)
 
+  -- f is found for the row's message
+  abbrev Finds : Found → Type 0
+  Finds f = f ≡ foundAmong rules (w .stand .mode) (messageOf e .kind)
+
   module _ (i : isRead t (entryOf e) ≡ true) where
-    pub row-answered : (d : Decoded) (p : ℕ) → some (ruleOf d) ≡ find (map ruleAt rules) (w .stand .mode) (messageOf e .kind) → row p ≡ readBy (some (ruleOf d)) p t (w .ordinal) (w .stand) (messageOf e .value)
-    row-answered d p f = rw (i, read-one (map ruleAt rules) p t (w .ordinal) (w .stand) (messageOf e), ← f)
+    pub row-answered : (d : Decoded) (p : ℕ) → Finds (Match d) → row p ≡ readBy (some (ruleOf d)) p t (w .ordinal) (w .stand) (messageOf e .value)
+    row-answered d p f = rw (i, read-one (map ruleAt rules) p t (w .ordinal) (w .stand) (messageOf e), ← finds rules (w .stand .mode) (messageOf e .kind), ← f)
 
-    pub row-unanswered : (p : ℕ) → none ≡ find (map ruleAt rules) (w .stand .mode) (messageOf e .kind) → row p ≡ nothing w
+    pub row-unanswered : (p : ℕ) → Finds Nothing → row p ≡ nothing w
     unfolding readBy
-    row-unanswered p f = rw (i, read-one (map ruleAt rules) p t (w .ordinal) (w .stand) (messageOf e), ← f)
+    row-unanswered p f = rw (i, read-one (map ruleAt rules) p t (w .ordinal) (w .stand) (messageOf e), ← finds rules (w .stand .mode) (messageOf e .kind), ← f)
 
-    pub read-answered : (d : Decoded) (r : Walk) → some (ruleOf d) ≡ find (map ruleAt rules) (w .stand .mode) (messageOf e .kind) → Answered d t (messageOf e .value) w r → RowRead rules t e w r
+    pub read-answered : (d : Decoded) (r : Walk) → Finds (Match d) → Answered d t (messageOf e .value) w r → RowRead rules t e w r
     read-answered d r f a p = subst (λ (x : Done). Moved (length (readOf t e)) x w r) (sym (row-answered d p f)) (rw i (a p))
 
-    pub read-unanswered : (r : Walk) → none ≡ find (map ruleAt rules) (w .stand .mode) (messageOf e .kind) → r ≡ record { stand = w .stand; ordinal = w .ordinal; read = w .read + 1; sent = w .sent } → RowRead rules t e w r
+    pub read-unanswered : (r : Walk) → Finds Nothing → r ≡ record { stand = w .stand; ordinal = w .ordinal; read = w .read + 1; sent = w .sent } → RowRead rules t e w r
     read-unanswered r f k p = subst (λ (x : Done). Moved (length (readOf t e)) x w r) (sym (row-unanswered p f)) (rw i (still w r 1 (omega arith) (ap (λ (x : Walk). x .stand) k) (ap (λ (x : Walk). x .ordinal) k) (ap (λ (x : Walk). x .read) k) (ap (λ (x : Walk). x .sent) k)))
 
   module _ (i : isRead t (entryOf e) ≡ false) where

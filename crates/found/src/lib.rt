@@ -2,11 +2,8 @@
 // decoded.
 ghost use mathlib.Core.Path.{_≡_};
 ghost use mathlib.Core.Bool.{_&&_};
-ghost use mathlib.Core.List.{map};
 ghost use lib.Dec.{eqb};
-ghost use Rattle.definition.specs.Model.{find as firstRule};
-ghost use Rattle.rule.specs.Rows.{ruleAt};
-ghost use Rattle.found.specs.Search.{foundOf};
+ghost use Rattle.found.specs.Search.{foundAmong};
 use rule::Decoded;
 use rule::KIND;
 use rule::MODE;
@@ -29,7 +26,7 @@ fn answers(mode: u32, kind: u32, wanted: u32, read: u32) -> bool
 
 // The rule for a mode and a kind among the rules of a process.
 pub fn find_among(rules: &[[u32; 16]], mode: u32, kind: u32) -> Found
-    ensures { λ r. ⌜ foundOf r ≡ firstRule (map ruleAt (now (rules .entry))) mode kind ⌝ }
+    ensures { λ r. ⌜ r ≡ foundAmong (now (rules .entry)) mode kind ⌝ }
 {
     let mut i: usize = 0;
     while i < rules.len() {

@@ -1,8 +1,6 @@
 -- By what `find` found: its rule is applied, or the process stands where it stood.
 use mathlib.Core.Path.{_∙_}
 use borrow.Author.Needs.{needs}
-use Rattle.definition.specs.Model.{setup, find}
-use Rattle.rule.specs.Rows.{modelOf}
 use Rattle.answer.proofs.Search.{stood}
 use Rattle.answer.proofs.apply.Statement.{statement}
 use Rattle.answer.proofs.apply.Tie as tie
@@ -25,13 +23,13 @@ returns c =
     let searched = c .before .before .before .before .find in
     let found = c .before .before .found in
     c .after .ensures
-    ∙ stood (searched .result) _ (find (setup (modelOf (a .model .now)) (a .process) .rules) (a .stand .mode) (a .kind)) (a .stand) (a .value) (found .given .1) (searched .ensures)
+    ∙ stood (a .model .now) (a .process) (a .stand .mode) (a .kind) (searched .result) _ (a .stand) (a .value) (searched .ensures) (found .given .1)
 
 returns-2 : tie.Need-returns-2
 returns-2 c =
     let a = c .before .before .before .args in
     let searched = c .before .before .find in
-    stood (searched .result) _ (find (setup (modelOf (a .model .now)) (a .process) .rules) (a .stand .mode) (a .kind)) (a .stand) (a .value) (c .enum-told .given .1) (searched .ensures)
+    stood (a .model .now) (a .process) (a .stand .mode) (a .kind) (searched .result) _ (a .stand) (a .value) (searched .ensures) (c .enum-told .given .1)
 
 pub apply-spec : {M : Type 1} → statement M
 apply-spec =

@@ -1,12 +1,10 @@
--- Past the model there is no rule; else the setup of the process is that of its rows.
-use mathlib.Core.List.{List, map}
+-- Past the model there is no rule; else its rows are those at its place.
+use mathlib.Core.List.{List}
 use mathlib.Core.Path.{ap, _∙_}
 use Prim.Native.Nat.{ℕ}
 use native.Mathlib.Omega.{arith}
 use borrow.Author.Needs.{needs}
-use Rattle.definition.specs.Model.{find}
-use Rattle.rule.specs.Laws.{model-length}
-use Rattle.rule.specs.Rows.{ruleAt}
+use Rattle.found.specs.Search.{foundAmong}
 use Rattle.answer.proofs.Search.{found-past, found-at}
 use Rattle.answer.proofs.find.Statement.{statement}
 use Rattle.answer.proofs.find.Tie as tie
@@ -21,12 +19,12 @@ returns : tie.Need-returns
 returns c =
     let a = c .before .before .before .args in
     let processes = c .before .before .processes in
-    found-past (a .model .now) (a .process) (a .mode) (a .kind) (omega (arith, model-length (a .model .now), c .before .size .ensures, processes .ensures))
+    found-past (a .model .now) (a .process) (a .mode) (a .kind) (omega (arith, c .before .size .ensures, processes .ensures))
 
 returns-2 : tie.Need-returns-2
 returns-2 c =
     let a = c .before .before .before .before .args in
-    found-past (a .model .now) (a .process) (a .mode) (a .kind) (omega (arith, model-length (a .model .now)))
+    found-past (a .model .now) (a .process) (a .mode) (a .kind) (omega arith)
 
 mul-rules : tie.Need-mul-rules
 mul-rules c = search needs
@@ -46,7 +44,7 @@ returns-3 c =
     let processes = c .before .before .before .before .before .before .before .processes in
     let size = c .before .before .before .before .before .before .size in
     c .find-among .ensures
-    ∙ ap (λ (l : List (List ℕ)). find (map ruleAt l) (a .mode) (a .kind)) (c .before .rules .ensures)
+    ∙ ap (λ (l : List (List ℕ)). foundAmong l (a .mode) (a .kind)) (c .before .rules .ensures)
     ∙ found-at (a .model .now) (a .process) (a .mode) (a .kind) (omega (arith, size .ensures, processes .ensures))
 
 pub find-spec : {M : Type 1} → statement M

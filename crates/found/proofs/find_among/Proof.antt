@@ -1,19 +1,16 @@
--- The loop's invariant: what is left of the rows from `i` on says what the whole says. The measure is what is left of the length.
-use mathlib.Core.Option.{some}
-use mathlib.Core.List.{map}
+-- The loop's invariant: among the rows from `i` on is found what is found among all. The measure is what is left of the length.
 use mathlib.Core.Path.{_≡_, refl, sym, ap, _∙_}
 use Prim.Native.Nat.{_≤_, _-_}
 use lib.ListN.{length, drop}
 use borrow.Author.Needs.{needs}
-use Rattle.definition.specs.Model.{find}
-use Rattle.rule.specs.Rows.{ruleOf, ruleAt}
-use Rattle.rule.specs.declared.Decoded.{Decoded}
+use Rattle.found.specs.declared.Found.the-variants.{Rule as Match}
+use Rattle.found.specs.Search.{foundAmong}
 use Rattle.found.proofs.Search.{found-here, found-later, found-none}
 use Rattle.found.proofs.find_among.Statement.{statement}
 use Rattle.found.proofs.find_among.Tie as tie
 
 abbrev Inv-loop : tie.InvT-loop
-Inv-loop rules mode kind i₀ i = (i ≤ length rules) × (find (map ruleAt rules) mode kind ≡ find (map ruleAt (drop i rules)) mode kind)
+Inv-loop rules mode kind i₀ i = (i ≤ length rules) × (foundAmong rules mode kind ≡ foundAmong (drop i rules) mode kind)
 
 abbrev μ-loop : tie.MeasureT-loop
 μ-loop rules mode kind i₀ i = length rules - i
@@ -58,7 +55,7 @@ returns c =
     let loop-test = c .before .before .before .before .before .before .loop-test in
     let answers = c .before .before .before .answers in
     let if1 = c .before .before .if1 in
-    ap (λ (d : Decoded). some (ruleOf d)) (c .decode .ensures)
+    ap Match (c .decode .ensures)
     ∙ sym (loop .inv .1 ∙ found-here (a .rules .now) (loop .i) (loop-test .taken) (a .mode) (a .kind) (sym (answers .ensures) ∙ if1 .taken))
 
 add-i : tie.Need-add-i Inv-loop μ-loop
