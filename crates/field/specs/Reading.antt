@@ -1,6 +1,7 @@
 -- What an answer of the code says in the words of the definition, where a reading gives something with the place of the next number, or a fault.
-use mathlib.Core.Path.{_≡_, sym, ap, _∙_}
+use mathlib.Core.Path.{_≡_, sym, ap, ap₂, _∙_}
 use Prim.Native.Nat.{ℕ}
+use native.Mathlib.Omega.{arith}
 use Rattle.definition.specs.declared.Number.{Number}
 use Rattle.definition.specs.declared.Number.the-variants.{Read as NumberRead, Fault as NumberFault}
 use Rattle.definition.specs.ModelBytes.{Parsed, Got, Fault}
@@ -15,6 +16,13 @@ numberFault (NumberFault n) = n
 abbrev pub fieldIn : FieldRead → Parsed ℕ
 fieldIn (GotField v next) = Got v next
 fieldIn (NoField f) = Fault (f .number) (f .at)
+
+-- the answer is settled by what it says
+pub one-answer : (r s : FieldRead) → fieldIn r ≡ fieldIn s → r ≡ s
+one-answer (GotField v next) (GotField u place) e = cc
+one-answer (GotField v next) (NoField f) e = let z : _≡_ {A = ℕ} 0 1 = cc in absurd (omega arith)
+one-answer (NoField f) (GotField v next) e = let z : _≡_ {A = ℕ} 0 1 = cc in absurd (omega arith)
+one-answer (NoField f) (NoField g) e = ap₂ (λ (number at : ℕ). NoField (record { number = number; at = at })) (cc) (cc)
 
 abbrev pub noRefusal : Refusal
 noRefusal = record { number = 0; at = 0 }

@@ -1,7 +1,9 @@
 -- What each answer of the code says in the words of the definition; the rule of the definition as it is decoded in a row, where words that a rule
 -- does not need are 0; and the part of a rule that is read last.
+use mathlib.Core.Path.{_≡_, ap₂}
 use mathlib.Core.List.{List}
 use Prim.Native.Nat.{ℕ}
+use native.Mathlib.Omega.{arith}
 use lib.ListN.{length, getD}
 use Rattle.definition.specs.declared.Effect.{Effect}
 use Rattle.definition.specs.declared.Value.{Value}
@@ -36,6 +38,13 @@ sendIn (NoSend f) = Fault (f .number) (f .at)
 abbrev pub ruleIn : RuleRead → Parsed Decoded
 ruleIn (GotRule d next) = Got d next
 ruleIn (NoRule f) = Fault (f .number) (f .at)
+
+-- the answer is settled by what it says
+pub one-answer : (r s : RuleRead) → ruleIn r ≡ ruleIn s → r ≡ s
+one-answer (GotRule d next) (GotRule o place) e = cc
+one-answer (GotRule d next) (NoRule f) e = let z : _≡_ {A = ℕ} 0 1 = cc in absurd (omega arith)
+one-answer (NoRule f) (GotRule d next) e = let z : _≡_ {A = ℕ} 0 1 = cc in absurd (omega arith)
+one-answer (NoRule f) (NoRule g) e = ap₂ (λ (number at : ℕ). NoRule (record { number = number; at = at })) (cc) (cc)
 
 -- ---- a send and a rule
 
