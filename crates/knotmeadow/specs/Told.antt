@@ -1,7 +1,8 @@
 -- What a host in another language is told. The result of a function is document 01's number, 0 for none, and what else there is to tell is put into
--- lent words; a refusal puts nothing into words that hold values, and the place of a fault in bytes is part of the answer. Each promise names what is due: a function of the memory, the bytes and the
--- arguments at entry, so that one result, one list of words and one state keep it.
-use mathlib.Core.Path.{_≡_}
+-- lent words; a refusal puts nothing into words that hold values, and the place of a fault in bytes is part of the answer. Each promise names what is
+-- due: a function of the memory, the bytes and the arguments at entry, so that one result, one list of words and one state keep it: `one-start`,
+-- `one-call`, `one-run` and `one-model` say so.
+use mathlib.Core.Path.{_≡_, sym, _∙_}
 use mathlib.Core.Bool.{cond}
 use mathlib.Core.List.{List, [], _∷_}
 use Prim.Native.Nat.{ℕ}
@@ -17,13 +18,13 @@ use Rattle.definition.specs.ModelBytes.{Parsed, Got, Fault}
 use Rattle.definition.specs.Record.{onto}
 use Rattle.definition.specs.Rehearsal.{rehearsal}
 use Rattle.rule.specs.Rows.{modelOf}
-use Rattle.memory.specs.Memory.{Memory, Table, Rows, Lent, entered, left}
-use Rattle.memory.specs.Promise.{isRefusal, due, Kept, dueStart, Begun}
+use Rattle.memory.specs.Memory.{Memory, stateOf, Table, Rows, Lent, entered, left}
+use Rattle.memory.specs.Promise.{isRefusal, due, Kept, one-answer, dueStart, Begun, one-start as one-begun}
 use Rattle.model.specs.Stored.{modelFor, answered, Promise}
 use Rattle.run.specs.declared.Ran.{Ran}
 use Rattle.run.specs.declared.Ran.the-variants.{Done as RanDone, Refused as RanRefused}
 use Rattle.run.specs.Made.{Made}
-use Rattle.run.specs.Promise.{callsDue, Runs}
+use Rattle.run.specs.Promise.{callsDue, Runs, one-answer as one-rehearsed}
 use Rattle.host.specs.declared.Stepped.{Stepped}
 use Rattle.host.specs.declared.Stepped.the-variants.{Done, Refused}
 
@@ -44,6 +45,13 @@ pub record StartTold (m w : Memory) (r : ℕ) : Type 0 where
 pub record Told (m : Memory) (c : Call) (w : Memory) (r : ℕ) : Type 0 where
   pub kept : Kept m c (due m c .answer) w
   pub number : r ≡ numberOf (due m c .answer)
+
+-- each admits one number and one state; the words and the bytes that are lent besides are settled by equations
+pub one-start : (m w v : Memory) (r s : ℕ) → StartTold m w r → StartTold m v s → (r ≡ s) × (stateOf w ≡ stateOf v)
+one-start m w v r s h k = (h .number ∙ sym (k .number), one-begun m _ _ w v (h .begun) (k .begun) .1)
+
+pub one-call : (m : Memory) (c : Call) (w v : Memory) (r s : ℕ) → Told m c w r → Told m c v s → (r ≡ s) × (stateOf w ≡ stateOf v)
+one-call m c w v r s h k = (h .number ∙ sym (k .number), one-answer m c _ _ w v (h .kept) (k .kept) .1)
 
 -- the same of references, as a function's clauses name them
 abbrev pub TellsStart : Lent Table → Lent Table → Lent Table → Lent Rows → Lent Table → ℕ → Type 0
@@ -85,6 +93,13 @@ pub record RunTold (bs : List ℕ) (m w : Memory) (answers answers′ : Rows) (c
   pub runs : Runs bs m (ranDue bs m answers committed) w answers answers′ committed committed′
   pub number : r ≡ ranNumber (ranDue bs m answers committed)
 
+-- it admits one number, one state, one list of rows and one record
+pub one-run : (bs : List ℕ) (m w v : Memory) (answers x y : Rows) (committed d e : List ℕ) (r s : ℕ)
+    → RunTold bs m w answers x committed d r → RunTold bs m v answers y committed e s → (r ≡ s) × (stateOf w ≡ stateOf v) × (x ≡ y) × (d ≡ e)
+one-run bs m w v answers x y committed d e r s h k =
+    let one = one-rehearsed bs m _ _ w v answers x y committed d e (h .runs) (k .runs) in
+    (h .number ∙ sym (k .number), one .1, one .2, one .3)
+
 abbrev pub TellsRun : Lent (List ℕ) → Lent Table → Lent Table → Lent Table → Lent Rows → Lent Table → Lent Rows → Lent (List ℕ) → ℕ → Type 0
 TellsRun bytes model inputs outputs transit own answers committed r =
     RunTold (now (bytes .entry)) (entered model inputs outputs transit own) (left model inputs outputs transit own)
@@ -111,6 +126,10 @@ faultAfter (Fault n at) before = at
 pub record ModelTold (bs : List ℕ) (before after : Table) (r : ℕ) : Type 0 where
   pub rows : Promise bs before after (answered (modelFor bs before))
   pub number : r ≡ numberIn (modelFor bs before)
+
+-- it admits one number and one table of rows
+pub one-model : (bs : List ℕ) (before x y : Table) (r s : ℕ) → ModelTold bs before x r → ModelTold bs before y s → (r ≡ s) × (x ≡ y)
+one-model bs before x y r s h k = (h .number ∙ sym (k .number), h .rows .rows ∙ sym (k .rows .rows))
 
 -- an entry of the record in five words; a fault leaves them
 abbrev pub inEntry : Event → List ℕ
