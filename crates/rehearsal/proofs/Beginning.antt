@@ -20,7 +20,6 @@ use Rattle.definition.specs.Program.{fileText, modelText, faultLine, modelLine}
 use Rattle.definition.specs.Record.{onto}
 use Rattle.laws.specs.Places.{and-true, true-and}
 use Rattle.runfile.specs.declared.Fault.{Fault as Refusal}
-use Rattle.runfile.specs.declared.HeadRead.{HeadRead}
 use Rattle.runfile.specs.declared.HeadRead.the-variants.{Model as Stands, Refused as NoModel}
 use Rattle.runfile.specs.Reading.{headBy, headOf, head-within}
 use Rattle.runfile.specs.Places.{model-fault-placed}
@@ -29,15 +28,15 @@ use Rattle.model.specs.declared.ModelRead.the-variants.{Accepted, Refused as Re
 use Rattle.model.specs.Stored.{hasRoom, modelFor, answered, rowsAfter, Promise}
 use Rattle.rule.specs.Rows.{processesOf, modelOf, shapedModel, lawfulModel}
 use Rattle.rule.specs.Laws.{lawful-model}
-use Rattle.memory.specs.Memory.{Memory, Table, Rows, allOf, stateOf, shaped, lawful}
+use Rattle.memory.specs.Memory.{Memory, Table, Rows, stateOf, lawful}
 use Rattle.memory.specs.Laws.{all-of-at, at-all-of}
 use Rattle.memory.specs.Keeping.{check-no}
 use Rattle.memory.specs.Promise.{sizedRows, sizedFor, sized, dueStart, Begun}
 use Rattle.rehearsal.specs.declared.Progress.{Progress}
-use Rattle.rehearsal.specs.declared.Progress.the-variants.{Printed, Refused}
-use Rattle.rehearsal.specs.Turns.{Turn, headTurn, modelTurn, firstTurn}
+use Rattle.rehearsal.specs.declared.Progress.the-variants.{Refused}
+use Rattle.rehearsal.specs.Turns.{firstTurn}
 use Rattle.lines.specs.Promise.{longest}
-use Rattle.rehearsal.specs.Promise.{Due, dueBy, firstRefusal, firstDue, Prints, Begins, Says, isRefusal, modelBy}
+use Rattle.rehearsal.specs.Promise.{firstRefusal, firstDue, Begins, Says, isRefusal, modelBy}
 
 -- ---- the start of a model that was read
 
@@ -77,7 +76,11 @@ module _ (m : Memory) (bs before : List ℕ) where
   refused-first : (n : ℕ) → firstRefusal m (length before) ≡ n → 0 < n → Begins m bs (Refused n) m before before
   unfolding firstDue onto
   refused-first zero e h = absurd (omega arith)
-  refused-first (suc n) e h = record { prints = record { answer = rw e; text = rw e; state = rw e; same = λ _. refl; lawful-again = λ l. l }; lawful-first = λ z. no z }
+  refused-first (suc n) e h = record {
+    prints = record { answer = rw e; text = rw e; state = rw e; same = λ _. refl; lawful-again = λ l. l };
+    fault-same = λ k place z. refl;
+    lawful-first = λ z. no z;
+  }
     where
       no : {X : Type 0} → true ≡ false → X
       no z = let y : _≡_ {A = ℕ} 0 1 = cc in absurd (omega arith)
@@ -93,10 +96,12 @@ module _ (m : Memory) (bs before : List ℕ) where
   module _ (e : roomy ≡ true) (h : longest ≤ length before) where
     -- a turn that says these lines and leaves this memory
     turned : {a : Progress} {w : Memory} {after lines : List ℕ} {next : ℕ} → Says lines next a before after → firstTurn bs (stateOf m) ≡ record { lines = lines; next = next; after = stateOf w }
-        → (lawful m ≡ true → lawful w ≡ true) → ((M : Model) (place : ℕ) → modelBy bs (headOf bs) ≡ Got M place → lawful w ≡ true) → Begins m bs a w before after
+        → (lawful m ≡ true → lawful w ≡ true) → ((n place : ℕ) → modelBy bs (headOf bs) ≡ Fault n place → w ≡ m)
+        → ((M : Model) (place : ℕ) → modelBy bs (headOf bs) ≡ Got M place → lawful w ≡ true) → Begins m bs a w before after
     unfolding firstDue firstRefusal
-    turned s t l f = let z : firstRefusal m (length before) ≡ 0 = rw (e, le-ltb (length before) longest h) in record {
+    turned s t l i f = let z : firstRefusal m (length before) ≡ 0 = rw (e, le-ltb (length before) longest h) in record {
       prints = record { answer = rw (z, t) (s .answer); text = rw (z, t) (s .text); state = rw (z, t); same = λ r. no (sym (ap isRefusal (s .answer)) ∙ r); lawful-again = l };
+      fault-same = i;
       lawful-first = λ _. f;
     }
       where
@@ -109,18 +114,18 @@ module _ (m : Memory) (bs before : List ℕ) where
     pub file-fault : {a : Progress} {after : List ℕ} (f : Refusal) → headOf bs ≡ NoModel f → Says (faultLine fileText (f .number) (f .at)) (length bs) a before after
         → Begins m bs a m before after
     unfolding firstTurn
-    file-fault f g s = turned s (rw g) (λ l. l) (λ M place z. no-model (rw g at z))
+    file-fault f g s = turned s (rw g) (λ l. l) (λ n place z. refl) (λ M place z. no-model (rw g at z))
 
     module _ (at size : ℕ) (g : headOf bs ≡ Stands at size) where
       pub model-fault : {a : Progress} {w : Memory} {after : List ℕ} (n place : ℕ) → modelIn (take size (drop at bs)) ≡ Fault n place → w ≡ m
           → Says (faultLine modelText n (at + place)) (length bs) a before after → Begins m bs a w before after
       unfolding firstTurn
-      model-fault n place k i s = turned s (rw (g, k, i)) (λ l. rw i l) (λ M next z. no-model (rw (g, k) at z))
+      model-fault n place k i s = turned s (rw (g, k, i)) (λ l. rw i l) (λ n place z. i) (λ M next z. no-model (rw (g, k) at z))
 
       pub model-read : {a : Progress} {w : Memory} {after : List ℕ} (M : Model) (place : ℕ) → modelIn (take size (drop at bs)) ≡ Got M place → (stateOf w ≡ started M) × (lawful w ≡ true)
           → Says (modelLine (length M)) (at + size) a before after → Begins m bs a w before after
       unfolding firstTurn
-      model-read M place k i s = turned s (rw (g, k, i .0)) (λ l. i .1) (λ N next z. i .1)
+      model-read M place k i s = turned s (rw (g, k, i .0)) (λ l. i .1) (λ n next z. no-model (sym (rw (g, k) at z))) (λ N next z. i .1)
 
 -- a fault of the file is told at 0 or at 65,536
 pub file-fault-place : (bs : List ℕ) (f : Refusal) → headOf bs ≡ NoModel f → f .at ≤ 65_536

@@ -71,13 +71,15 @@ pub record Prints (m : Memory) (d : Due) (a : Progress) (w : Memory) (before aft
   pub same : isRefusal a ≡ true → w ≡ m
   pub lawful-again : lawful m ≡ true → lawful w ≡ true
 
--- a model that was read has been started: the memory is lawful, whatever it was before
+-- the model that stands in the input, or the fault of the file or of the model
 abbrev pub modelBy : List ℕ → HeadRead → Parsed Model
 modelBy bs (Stands at size) = modelIn (take size (drop at bs))
 modelBy bs (NoModel f) = Fault (f .number) (f .at)
 
+-- a model that was read has been started: the memory is lawful, whatever it was before; a fault leaves every lent word
 pub record Begins (m : Memory) (bs : List ℕ) (a : Progress) (w : Memory) (before after : List ℕ) : Type 0 where
   pub prints : Prints m (firstDue m (length before) bs) a w before after
+  pub fault-same : (n place : ℕ) → modelBy bs (headOf bs) ≡ Fault n place → w ≡ m
   pub lawful-first : isRefusal a ≡ false → (M : Model) (next : ℕ) → modelBy bs (headOf bs) ≡ Got M next → lawful w ≡ true
 
 -- the same of references, as the functions' clauses name them
@@ -94,3 +96,7 @@ StepsAt bytes at model inputs outputs transit own text a =
 pub one-answer : (m : Memory) (d : Due) (a b : Progress) (w v : Memory) (before x y : List ℕ) → Prints m d a w before x → Prints m d b v before y
     → (a ≡ b) × (x ≡ y) × (stateOf w ≡ stateOf v)
 one-answer m d a b w v before x y h k = (h .answer ∙ sym (k .answer), h .text ∙ sym (k .text), h .state ∙ sym (k .state))
+
+pub one-beginning : (m : Memory) (bs : List ℕ) (a b : Progress) (w v : Memory) (before x y : List ℕ) → Begins m bs a w before x → Begins m bs b v before y
+    → (a ≡ b) × (x ≡ y) × (stateOf w ≡ stateOf v)
+one-beginning m bs a b w v before x y h k = one-answer m (firstDue m (length before) bs) a b w v before x y (h .prints) (k .prints)
