@@ -5,7 +5,7 @@ use mathlib.Core.Bool.{Bool, true, false, cond}
 use mathlib.Core.List.{List, [], _++_, append-nil}
 use Prim.Native.Nat.{ℕ, zero, suc, _+_, _≤_, _<_}
 use native.Mathlib.Omega.{arith}
-use borrow.Author.Tests.{le-leb, lt-leb, leb-true, leb-false}
+use borrow.Author.Tests.{le-leb, lt-leb}
 use lib.Dec.{leb}
 use lib.ListN.{length, take, drop}
 use Rattle.definition.specs.declared.Call.{Call}
@@ -15,12 +15,10 @@ use Rattle.definition.specs.State.{State}
 use Rattle.definition.specs.Calls.{started}
 use Rattle.definition.specs.BadState.{call}
 use Rattle.definition.specs.Program.{fileText, modelText, callText, faultLine, modelLine, callLines, callAt, orFault, callsFrom, modelFrom, printed}
-use Rattle.runfile.specs.declared.Fault.{Fault as Refusal}
 use Rattle.runfile.specs.declared.HeadRead.{HeadRead}
 use Rattle.runfile.specs.declared.HeadRead.the-variants.{Model as Stands, Refused}
 use Rattle.runfile.specs.Reading.{headOf, headLines, printed-head}
 use Rattle.runfile.specs.Places.{call-placed}
-use Rattle.runfile.specs.Turns.{turn-end, turn-fault, turn-call}
 
 -- what a turn prints, the place of the next call, and the state that it leaves
 pub record Turn : Type 0 where
@@ -83,10 +81,15 @@ module _ (bs : List ℕ) where
       go (Fault n place) e = (h, omega arith)
 
   -- nothing is printed at the end
-  turns-over : (n : ℕ) (s : State) (at : ℕ) → length bs ≤ at → turnsFrom n bs s at ≡ []
+  pub turns-over : (n : ℕ) (s : State) (at : ℕ) → length bs ≤ at → turnsFrom n bs s at ≡ []
   unfolding turnsFrom
   turns-over zero s at h = refl
   turns-over (suc n) s at h = rw (le-leb (length bs) at h)
+
+  pub turns-on : (n : ℕ) (s : State) (at : ℕ) → at < length bs
+      → turnsFrom (suc n) bs s at ≡ turnAt bs s at .lines ++ turnsFrom n bs (turnAt bs s at .after) (turnAt bs s at .next)
+  unfolding turnsFrom
+  turns-on n s at h = rw (lt-leb (length bs) at h)
 
   -- turn by turn is what the definition prints
   turns : (n : ℕ) (s : State) (at : ℕ) → turnsFrom n bs s at ≡ callsFrom n bs s at
@@ -100,7 +103,8 @@ module _ (bs : List ℕ) where
           ≡ cond b [] (orFault callText 0 p (λ c next. callLines c (call s c) ++ callsFrom n bs (call s c .after) next))
       go true e p ih = refl
       go false e (Got c next) ih = ap (λ (l : List ℕ). callLines c (call s c) ++ l) (ih (call s c .after) next)
-      go false e (Fault m place) ih = ap (λ (l : List ℕ). faultLine callText m place ++ l) (turns-over n s (length bs) (omega arith)) ∙ append-nil (faultLine callText m place) ∙ ap (faultLine callText m) (let z : place ≡ 0 + place = omega arith in z)
+      go false e (Fault m place) ih =
+          ap (λ (l : List ℕ). faultLine callText m place ++ l) (turns-over n s (length bs) (omega arith)) ∙ append-nil (faultLine callText m place) ∙ ap (faultLine callText m) (let z : place ≡ 0 + place = omega arith in z)
 
   -- the first turn's lines and those of the turns after it are all that the program prints
   pub program : (s : State) → firstTurn bs s .lines ++ turnsFrom (length bs) bs (firstTurn bs s .after) (firstTurn bs s .next) ≡ printed bs
