@@ -1,6 +1,5 @@
 -- What a program that moves a turn's bytes relies on: what was printed lies within the text, and the next call stands further on in the input.
-use mathlib.Core.Path.{_≡_, refl, sym, ap, _∙_}
-use mathlib.Core.Bool.{Bool, true, false, cond}
+use mathlib.Core.Path.{_≡_, refl, ap}
 use mathlib.Core.List.{List, _++_}
 use Prim.Native.Nat.{ℕ, zero, suc, _+_, _≤_, _<_}
 use native.Mathlib.Omega.{arith}
@@ -16,7 +15,7 @@ use Rattle.memory.specs.Memory.{Memory, stateOf}
 use Rattle.rehearsal.specs.declared.Progress.{Progress}
 use Rattle.rehearsal.specs.declared.Progress.the-variants.{Printed, Refused}
 use Rattle.rehearsal.specs.Turns.{Turn, headTurn, modelTurn, firstTurn, turnAt, turn-later}
-use Rattle.rehearsal.specs.Promise.{Due, dueBy, firstRefusal, firstDue, turnRefusal, turnDue, Prints, Begins}
+use Rattle.rehearsal.specs.Promise.{dueBy, firstRefusal, firstDue, turnRefusal, turnDue, Prints, Begins}
 
 -- how far the text is printed, and the place of the next call in an input of this length: its end after a refusal
 abbrev pub endOf : Progress → ℕ
@@ -43,6 +42,15 @@ module _ (m : Memory) (turn : Turn) where
   due-later : (n : ℕ) {a : Progress} {w : Memory} {before after : List ℕ} {at input : ℕ} → Prints m (dueBy m turn n) a w before after → at < turn .next → at < input → at < nextOf a input
   due-later zero p l h = rw (p .answer) l
   due-later (suc n) p l h = rw (p .answer) h
+
+-- the place from which it goes on after a turn: that of the next call, or the end of the input, where nothing can be written
+pub data GoesOn (a : Progress) (input : ℕ) : ℕ → Type 0 where
+  at-next : GoesOn a input (nextOf a input)
+  at-end : GoesOn a input input
+
+pub goes-later : {a : Progress} {input at r : ℕ} → GoesOn a input r → at < nextOf a input → at < input → at < r
+goes-later at-next h k = h
+goes-later at-end h k = k
 
 -- the first turn
 first-next : (bs : List ℕ) (s : State) → firstTurn bs s .next ≤ length bs

@@ -1,16 +1,16 @@
 // The program: one rehearsal, from standard input to standard output. It only moves bytes: what is printed is settled by `rehearsal`, one turn after
-// another, so that output of any length goes out in parts.
+// another, so that output of any length goes out in parts. Of this loop `all-printed` (crate `rehearsal`, specs/Whole.antt) says what it prints.
 use libc::STDIN_FILENO;
 use libc::STDOUT_FILENO;
 use rehearsal::Progress;
 ghost use Prim.Native.Nat.{_≤_};
 ghost use lib.ListN.{length};
-ghost use Rattle.rehearsal.specs.Moving.{endOf, nextOf};
+ghost use Rattle.rehearsal.specs.Moving.{endOf, GoesOn};
 
 // Writes what a turn printed, and gives the place of the next call; or the end of the input, where the turn was refused or nothing can be written.
 fn put(turn: Progress, text: &[u8], input: usize) -> usize
-    requires { ⌜ (endOf turn ≤ length (now text)) × (nextOf turn input ≤ input) ⌝ }
-    ensures { λ r. ⌜ nextOf turn input ≤ r ⌝ }
+    requires { ⌜ endOf turn ≤ length (now text) ⌝ }
+    ensures { λ r. ⌜ GoesOn turn input r ⌝ }
 {
     let Progress::Printed { end, next } = turn else {
         return input;
