@@ -18,32 +18,34 @@ pub const EVENTS: u64 = 9;
 
 pub const PROCESS: u64 = 10;
 
+// The last verb that may lack its last number.
 pub const WHOLE: u64 = 11;
 
 pub const RULE: u64 = 12;
 
 pub const MODEL: u64 = 13;
 
-// The last verb that may lack its last number.
 pub const RULES: u64 = 14;
 
 pub const STEP: u64 = 15;
 
-pub const BYTES: u64 = 16;
+pub const LOWEST: u64 = 16;
+
+pub const BYTES: u64 = 17;
 
 // The calls. A fresh start is not printed.
-pub const FRESH: u64 = 17;
+pub const FRESH: u64 = 18;
 
-pub const INJECT: u64 = 19;
+pub const INJECT: u64 = 20;
 
-pub const DELIVER: u64 = 20;
+pub const DELIVER: u64 = 21;
 
-pub const EXECUTE: u64 = 21;
+pub const EXECUTE: u64 = 22;
 
-pub const ADVANCE: u64 = 22;
+pub const ADVANCE: u64 = 23;
 
 // Nothing more on the line. What cannot be read is the verb NONE.
-pub const NOTHING: u64 = 23;
+pub const NOTHING: u64 = 24;
 
 pub struct Statement {
     pub verb: u64,

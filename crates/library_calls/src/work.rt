@@ -187,7 +187,7 @@ pub fn work(text: &[u8], first: usize, line: usize, call: usize) -> usize {
             & same::own(&own_before, &own)
             & same::buffer(&buffer_before, &buffer);
         say::answer(answer, kept, manner_of(statement.verb, manner));
-        hosts::step(&model, statement);
+        hosts::call(&model, statement);
         say::bytes(&buffer, statement.verb);
         say::fault(statement.verb);
         let turn = turn_after(statement, line, call, manner);

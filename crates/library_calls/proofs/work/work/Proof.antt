@@ -63,8 +63,8 @@ manner-of-requires c κs = search needs
 answer-requires : tie.Need-answer-requires Inv-loop μ-loop
 answer-requires c κs = search needs
 
-step-requires : tie.Need-step-requires Inv-loop μ-loop
-step-requires c κs = search needs
+call-requires : tie.Need-call-requires Inv-loop μ-loop
+call-requires c κs = search needs
 
 bytes-requires : tie.Need-bytes-requires Inv-loop μ-loop
 bytes-requires c κs = search needs
@@ -113,7 +113,7 @@ work-spec =
     buffer-requires
     manner-of-requires
     answer-requires
-    step-requires
+    call-requires
     bytes-requires
     fault-requires
     turn-after-requires
