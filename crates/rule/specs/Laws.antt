@@ -7,7 +7,7 @@ use mathlib.Core.Option.{Option, none, some}
 use Prim.Native.Nat.{ℕ, zero, suc, _≤_, _<_, min}
 use native.Mathlib.Omega.{arith}
 use lib.Dec.{leb, eqb}
-use lib.ListN.{length, getD, take, drop, length-map, length-take, List·getD-map, List·getD-eq-default}
+use lib.ListN.{length, getD, take, drop, length-map, length-take, List·getD-map}
 use lib.Seq.{getD-take}
 use borrow.Author.Tests.{eqb-true, leb-true, ne-eqb}
 use Rattle.definition.specs.declared.Effect.{Effect}
@@ -64,10 +64,6 @@ setup-is m p = List·getD-map setupOf (take (processesOf m) m) p []
 
 pub setup-at : (m : List (List (List ℕ))) (p : ℕ) → p < processesOf m → setup (modelOf m) p ≡ setupOf (getD m p [])
 setup-at m p h = setup-is m p ∙ ap setupOf (getD-take (processesOf m) m p [] h)
-
--- none past the model
-pub setup-past : (m : List (List (List ℕ))) (p : ℕ) → length (modelOf m) ≤ p → setup (modelOf m) p ≡ noSetup
-setup-past m p h = List·getD-eq-default (modelOf m) noSetup h
 
 pub model-length : (m : List (List (List ℕ))) → length (modelOf m) ≡ min (processesOf m) (length m)
 unfolding modelOf
