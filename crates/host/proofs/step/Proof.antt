@@ -47,7 +47,7 @@ use Rattle.definition.proofs.Stand as S
 use Rattle.definition.proofs.Stand.Laws as S′
 use Rattle.host.specs.declared.Outcome.{Outcome}
 use Rattle.host.specs.declared.Stepped.{Stepped}
-use Rattle.host.specs.Steps.{outcome}
+use Rattle.host.specs.Steps.{answered, refusal, standing, outcome}
 use Rattle.host.proofs.Walk.{number, twice, answers}
 use Rattle.host.proofs.Outcome as O
 use Rattle.host.proofs.Outcome.Laws as O′
@@ -105,16 +105,13 @@ module _ {M : Type 1} (𝓤 : URA M) (H : Heap 𝓤) (A : Atoms 𝓤) (W : Given
   abbrev Post : Val → SProp 𝓤
   Post = walkOf 𝓤 H A f.ended stayed (f.clauses 𝓤 H A mem″ run) .post (((κ, (κ′, tt)), (q, (q′, tt)), tt, a, at), tt)
 
-  -- what the callee is passed
-  abbrev passed : Args decide.signature (κ, tt)
-  passed = (x, (p, (s, (kind, (value, tt)))))
+  -- the callee, passed a kind and a value
+  abbrev to : ℕ → ℕ → Decide 𝓤 H A mem″ run .Ghost
+  to k w = (((κ, tt), (q, tt), tt, (x, (p, (s, (k, (w, tt))))), (v ∷ [], (vint w32 p ∷ [], (stood s ∷ [], (vint w32 k ∷ [], (vint w32 w ∷ [], tt)))))), tt)
 
-  abbrev to : Decide 𝓤 H A mem″ run .Ghost
-  to = (((κ, tt), (q, tt), tt, passed, (v ∷ [], (vint w32 p ∷ [], (stood s ∷ [], (vint w32 kind ∷ [], (vint w32 value ∷ [], tt)))))), tt)
-
-  goes-decide : Is S.the-row s (stood s ∷ []) → ent 𝓤 (sep 𝓤 (A .lft κ q) (sem 𝓤 H A Own)) (Decide 𝓤 H A mem″ run .pre to)
-  goes-decide was =
-      qed W (‵ (flft κ q) ∷ ‵ Own ∷ []) ∵ nothing ! $ number ! value value-fits $ fjoin ! $ number ! kind kind-fits $ fjoin ! $
+  goes-decide : (k w : ℕ) → k < 2 ^ 32 → w < 2 ^ 32 → Is S.the-row s (stood s ∷ []) → ent 𝓤 (sep 𝓤 (A .lft κ q) (sem 𝓤 H A Own)) (Decide 𝓤 H A mem″ run .pre (to k w))
+  goes-decide k w gk gw was =
+      qed W (‵ (flft κ q) ∷ ‵ Own ∷ []) ∵ nothing ! $ number ! w gw $ fjoin ! $ number ! k gk $ fjoin ! $
       owned ! S.the-row (Is S.the-row) (LL.makes S.the-type S′.the-plain 𝓤 H A) s (stood s ∷ []) was $ fjoin ! $ number ! p p-fits $ fjoin ! $
       move ! (2 ∷ 0 ∷ []) $ fjoin ! $ nothing ! $ move ! (2 ∷ 0 ∷ []) $ join ! $ join ! $ frame ! $ done !
 
@@ -126,16 +123,17 @@ module _ {M : Type 1} (𝓤 : URA M) (H : Heap 𝓤) (A : Atoms 𝓤) (W : Given
     answer-is : Is P.the-row (r .answer) (told (r .answer) ∷ [])
     answer-is = LL.owed O.the-type O′.the-laws r (u ∷ []) is .1 .0
 
-    exits : r ≡ outcome m p s kind value
-        → ent 𝓤 (⋆ 𝓤 H A (‵ (fobs γ′ (S.the-row .coded .code (r .stand))) ∷ ‵ (fbor κ′ (Body (mem S.the-row) b′ o′ γ′)) ∷ ‵ (flft κ′ q′) ∷ (‵ (flft κ q) ⊛ ‵ ftrue) ∷ ‵ Own ∷ [])) (Post (told (r .answer)))
-    exits e =
-        qed W (‵ (fobs γ′ (S.the-row .coded .code (r .stand))) ∷ ‵ (fbor κ′ (Body (mem S.the-row) b′ o′ γ′)) ∷ ‵ (flft κ′ q′) ∷ (‵ (flft κ q) ⊛ ‵ ftrue) ∷ ‵ Own ∷ []) ∵
-        suffices ! _ (ends-at 𝓤 H A f.ended stayed (f.clauses 𝓤 H A mem″ run) W (((κ, (κ′, tt)), (q, (q′, tt)), tt, a, at), tt) (told (r .answer)) (r .answer) (tt, (tt, (r .stand, (tt, (tt, tt))))) (tt, (tt, (tt, (tt, (tt, tt)))))) $
-        says ! (ap (λ (d : Outcome). d .answer) e, ap (λ (d : Outcome). d .stand) e) $
-        move ! (3 ∷ []) $ split ! $ move ! (4 ∷ 1 ∷ []) $ join ! $ move ! (1 ∷ 0 ∷ []) $ join ! $ frame ! $
-        feqI ! (List Val) (vptr b′ o′ ∷ []) (vptr b′ o′ ∷ []) refl $ fjoin3 ! $ nothing ! $ number ! value value-fits $ fjoin ! $
-        number ! kind kind-fits $ fjoin ! $ move ! (1 ∷ 0 ∷ []) $ fjoin ! $ number ! p p-fits $ fjoin ! $
-        move ! (1 ∷ 0 ∷ []) $ fjoin ! $ frame ! $ owned ! P.the-row (Is P.the-row) (EL.makes P.the-type P′.the-plain 𝓤 H A) (r .answer) _ answer-is $ done !
+  -- with this answer, and the mode and tally left so, the contract is met
+  exits : (d : Stepped) → Is P.the-row d (told d ∷ []) → (t : Stand) → d ≡ answered (refusal m p) → t ≡ standing m p s kind value
+      → ent 𝓤 (⋆ 𝓤 H A (‵ (fobs γ′ (S.the-row .coded .code t)) ∷ ‵ (fbor κ′ (Body (mem S.the-row) b′ o′ γ′)) ∷ ‵ (flft κ′ q′) ∷ (‵ (flft κ q) ⊛ ‵ ftrue) ∷ ‵ Own ∷ [])) (Post (told d))
+  exits d is t tells leaves =
+      qed W (‵ (fobs γ′ (S.the-row .coded .code t)) ∷ ‵ (fbor κ′ (Body (mem S.the-row) b′ o′ γ′)) ∷ ‵ (flft κ′ q′) ∷ (‵ (flft κ q) ⊛ ‵ ftrue) ∷ ‵ Own ∷ []) ∵
+      suffices ! _ (ends-at 𝓤 H A f.ended stayed (f.clauses 𝓤 H A mem″ run) W (((κ, (κ′, tt)), (q, (q′, tt)), tt, a, at), tt)
+      (told d) d (tt, (tt, (t, (tt, (tt, tt))))) (tt, (tt, (tt, (tt, (tt, tt)))))) $ says ! (tells, leaves) $
+      move ! (3 ∷ []) $ split ! $ move ! (4 ∷ 1 ∷ []) $ join ! $ move ! (1 ∷ 0 ∷ []) $ join ! $ frame ! $
+      feqI ! (List Val) (vptr b′ o′ ∷ []) (vptr b′ o′ ∷ []) refl $ fjoin3 ! $ nothing ! $ number ! value value-fits $ fjoin ! $
+      number ! kind kind-fits $ fjoin ! $ move ! (1 ∷ 0 ∷ []) $ fjoin ! $ number ! p p-fits $ fjoin ! $
+      move ! (1 ∷ 0 ∷ []) $ fjoin ! $ frame ! $ owned ! P.the-row (Is P.the-row) (EL.makes P.the-type P′.the-plain 𝓤 H A) d _ is $ done !
 
   module _ (C : Calls 𝓤 H) (Λ : Loops 𝓤 H) (fm : FmC 𝓤 H (W .laws) C) (known : Triple 𝓤 (C #host·outcome-of) (Decide 𝓤 H A mem″ run)) where
     walk : Room E (length m) → ent 𝓤 (onEntry 𝓤 H A f.signature (κ, (κ′, tt)) (q, (q′, tt)) a at) (WpFn 𝓤 H C Λ code.function (v ∷ vint w32 p ∷ vptr b′ o′ ∷ vint w32 kind ∷ vint w32 value ∷ []) Post)
@@ -151,10 +149,10 @@ module _ {M : Type 1} (𝓤 : URA M) (H : Heap 𝓤) (A : Atoms 𝓤) (W : Given
         -- [the struct's cell; what it owns; the open borrow; obs; auth; true; the model's token; what the model owns; _7; …; _6; …; _5; …; _4; …; _3; …; _2; …; _1; …; _0; …]
         assigns ! (of-opd ! (load ! (from ! (hop ! (look ! 16 refl) (stop !))) (look-raw ! 0 refl))) (from ! (stop !)) (init ! 8 refl (LL.lawful S.the-type S′.the-laws 𝓤 H A W .typed s _ was .0)) $
         -- what the model owns is had twice: one copy goes to the callee, with the token, and the other is kept for the exit
-        move ! (7 ∷ []) $ twice ! (named 0) κ E x $ move ! (8 ∷ 0 ∷ []) $ use2 W (raw (Decide 𝓤 H A mem″ run .pre to)) (goes-decide was) $
-        calls-at ! fm (Decide 𝓤 H A mem″ run) known to
+        move ! (7 ∷ []) $ twice ! (named 0) κ E x $ move ! (8 ∷ 0 ∷ []) $ use2 W (raw (Decide 𝓤 H A mem″ run .pre (to kind value))) (goes-decide kind value kind-fits value-fits was) $
+        calls-at ! fm (Decide 𝓤 H A mem″ run) known (to kind value)
         (and-then ! (load ! (from ! (stop !)) (look ! 20 refl)) (and-then ! (load ! (from ! (stop !)) (look ! 18 refl)) (and-then ! (load ! (from ! (stop !)) (look ! 8 refl)) (and-then ! (load ! (from ! (stop !)) (look ! 14 refl)) (and-then ! (load ! (from ! (stop !)) (look ! 12 refl)) (no-more !)))))) (λ u.
-        answers decide.ended (decide.clauses 𝓤 H A mem″ run) to ! tt u (λ r. r ≡ outcome m p s kind value) (λ r e. id⊢ 𝓤 _) (λ r e.
+        answers decide.ended (decide.clauses 𝓤 H A mem″ run) (to kind value) ! tt u (λ r. r ≡ outcome m p s kind value) (λ r e. id⊢ 𝓤 _) (λ r e.
         peeks ! O.the-row (Is O.the-row) (shows 𝓤 H A O.the-row) r (u ∷ []) (λ is. drop ! $ use1 W (‵ (flft κ q) ⊛ ‵ ftrue) (id⊢ 𝓤 _) $
         -- [the token; what the model owns; the struct's cell; what it owned; the open borrow; obs; auth; true; _7; …; _6; …; _5; …; _4; …; _3; …; _2; …; _1; …; _0; …]
         land ! (from ! (stop !)) (init ! 10 refl (LL.lawful O.the-type O′.the-laws 𝓤 H A W .typed r _ is .0)) $ rewrite ! 10 (λ (z : Val). ‵ (fat fullShare O′.mir l₆ 0 z)) (ap only (LL.tells O.the-type O′.the-laws r (u ∷ []) is)) refl $
@@ -167,7 +165,7 @@ module _ {M : Type 1} (𝓤 : URA M) (H : Heap 𝓤) (A : Atoms 𝓤) (W : Given
         returns ! (look ! 20 refl) $ forget ! 6 refl $ forget ! 8 refl $ forget ! 10 refl $ forget ! 12 refl $ forget ! 14 refl $ forget ! 16 refl $ forget ! 18 refl $ forget ! 20 refl $
         move ! (20 ∷ 21 ∷ []) $ free1 ! $ move ! (18 ∷ 19 ∷ []) $ free1 ! $ move ! (16 ∷ 17 ∷ []) $ free1 ! $ move ! (14 ∷ 15 ∷ []) $ free1 ! $
         move ! (12 ∷ 13 ∷ []) $ free1 ! $ move ! (10 ∷ 11 ∷ []) $ free1 ! $ move ! (8 ∷ 9 ∷ []) $ free1 ! $ move ! (6 ∷ 7 ∷ []) $ free1 ! $ free0 ! $
-        keep ! (0 ∷ 1 ∷ 2 ∷ 3 ∷ 4 ∷ []) $ by ! (exits r u is e))))))))))))))
+        keep ! (0 ∷ 1 ∷ 2 ∷ 3 ∷ 4 ∷ []) $ by ! (exits (r .answer) (answer-is r u is) (r .stand) (ap (λ (d : Outcome). d .answer) e) (ap (λ (d : Outcome). d .stand) e)))))))))))))))
 
 module _ {M : Type 1} (𝓤 : URA M) (H : Heap 𝓤) (A : Atoms 𝓤) (W : Given 𝓤 H A) (mem″ : Memory → SProp 𝓤) (run : Routine → Fun 𝓤) (𝓣 : Tables 𝓤 H) (known : Triple 𝓤 (𝓣 .C #host·outcome-of) (Decide 𝓤 H A mem″ run)) where
   step-walks : Walks 𝓤 H A f.ended stayed (WpFn 𝓤 H (𝓣 .C) (𝓣 .Λ) code.function) (f.clauses 𝓤 H A mem″ run)
