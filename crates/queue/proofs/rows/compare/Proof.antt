@@ -2,6 +2,7 @@
 use Prim.Native.Nat.{_≤_, _-_}
 use mathlib.Core.Path.{_≡_, _∙_}
 use borrow.Author.Needs.{needs}
+use native.Mathlib.Omega.{arith}
 use Rattle.queue.specs.Queues.{readingOrder}
 use Rattle.queue.proofs.Reading.{orderFrom, order-start, order-done, order-less, order-more, order-next}
 use Rattle.queue.proofs.rows.compare.Statement.{statement}
@@ -29,10 +30,10 @@ array-read-y : tie.Need-array-read-y Inv-loop μ-loop
 array-read-y c = search needs
 
 returns : tie.Need-returns Inv-loop μ-loop
-returns c = rw (c .before .before .loop .inv .1 ∙ order-less _ _ _ (c .before .loop-test .taken) (c .if1 .taken))
+returns c = rw (c .before .before .loop .inv .1 ∙ order-less _ _ _ (omega (arith, c .before .loop-test .taken)) (c .if1 .taken))
 
 returns-2 : tie.Need-returns-2 Inv-loop μ-loop
-returns-2 c = rw (c .before .before .before .loop .inv .1 ∙ order-more _ _ _ (c .before .before .loop-test .taken) (c .if2 .taken))
+returns-2 c = rw (c .before .before .before .loop .inv .1 ∙ order-more _ _ _ (omega (arith, c .before .before .loop-test .taken)) (c .if2 .taken))
 
 add-k : tie.Need-add-k Inv-loop μ-loop
 add-k c = search needs
@@ -41,10 +42,10 @@ loop-less : tie.Need-loop-less Inv-loop μ-loop
 loop-less c = search needs
 
 loop-again : tie.Need-loop-again Inv-loop μ-loop
-loop-again c = (search needs, c .before .before .before .loop .inv .1 ∙ order-next _ _ _ (c .before .before .loop-test .taken) (c .before .if1 .left) (c .if2 .left))
+loop-again c = (search needs, c .before .before .before .loop .inv .1 ∙ order-next _ _ _ (omega (arith, c .before .before .loop-test .taken)) (c .before .if1 .left) (c .if2 .left))
 
 returns-3 : tie.Need-returns-3 Inv-loop μ-loop
-returns-3 c = rw (c .before .loop .inv .1 ∙ order-done _ _ _ (c .loop-test .left))
+returns-3 c = rw (c .before .loop .inv .1 ∙ order-done _ _ _ (omega (arith, c .loop-test .left)))
 
 pub compare-spec : {M : Type 1} → statement M
 compare-spec =
