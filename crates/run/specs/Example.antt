@@ -1,11 +1,12 @@
 -- The rehearsal of document 01, as a run: with a row for each of its calls and room for its record and one buffer more, all its calls are made, and
 -- what the promise then gives are the answers and the record of the document.
-use mathlib.Core.Path.{_≡_, refl, ap, _∙_}
+use mathlib.Core.Path.{_≡_, refl, sym, ap, _∙_}
 use mathlib.Core.Bool.{false}
 use mathlib.Core.List.{List, [], _∷_, _++_}
 use Prim.Native.Nat.{ℕ, _<_}
 use native.Mathlib.Omega.{arith}
 use lib.ListN.{length, drop, getD}
+use Rattle.definition.specs.declared.Call.{Call}
 use Rattle.definition.specs.Calls.{check, started}
 use Rattle.definition.specs.Message.{never}
 use Rattle.definition.specs.Record.{onto}
@@ -60,6 +61,13 @@ wholeRecord = 5 ∷ 0 ∷ 1 ∷ 0 ∷ 1 ∷ 3 ∷ 1 ∷ 1 ∷ 0 ∷ 1 ∷ 2 ∷ 
 example-record : rehearsal example whole .bytes ≡ wholeRecord
 unfolding rehearsal check
 example-record = refl
+
+-- so no list of bytes is the record of every rehearsal: this one has these, and one without calls has none
+pub not-one-record : (fixed : List ℕ) → ((cs : List Call) → rehearsal example cs .bytes ≡ fixed) → ⊥
+unfolding rehearsal
+not-one-record fixed same =
+    let e : wholeRecord ≡ [] = sym example-record ∙ same whole ∙ sym (same []) in
+    omega (arith, ap length e)
 
 -- whatever meets the promise on this input
 module _ {m w : Memory} {a : Ran} {answers answers′ : Rows} {committed committed′ : List ℕ} (h : Runs wholeBytes m a w answers answers′ committed committed′)
