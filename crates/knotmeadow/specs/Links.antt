@@ -1,6 +1,6 @@
 -- A host's calls in C or Rust are the links of the chain of crate `engine`: a start that is told by 0 begins one, and each call after it goes on with
 -- it, whatever its number. So they too are a rehearsal (`a-rehearsal`).
-use mathlib.Core.Path.{_≡_, refl, sym, _∙_}
+use mathlib.Core.Path.{_≡_, sym, _∙_}
 use mathlib.Core.Bool.{false}
 use mathlib.Core.List.{List, []}
 use Prim.Native.Nat.{ℕ}
@@ -22,6 +22,6 @@ pub calls : {m w : Memory} {c : Call} {r : ℕ} → isAdvance c ≡ false → To
 calls other t = kept other (t .kept)
 
 -- an advance, whose buffer was b and is d
-pub advances : {m w : Memory} {ceiling r : ℕ} {b d : List ℕ} → Told m (Advance ceiling (length b)) w r → d ≡ onto (due m (Advance ceiling (length b)) .bytes) b
-    → Called m (Advance ceiling (length b)) (due m (Advance ceiling (length b)) .answer) w (take (writtenOf (due m (Advance ceiling (length b)) .answer)) d)
-advances t e = committed refl (record { kept = t .kept; buffer = e })
+pub advances : {m w : Memory} {ceiling room r : ℕ} (b d : List ℕ) → length b ≡ room → Told m (Advance ceiling room) w r → d ≡ onto (due m (Advance ceiling room) .bytes) b
+    → Called m (Advance ceiling room) (due m (Advance ceiling room) .answer) w (take (writtenOf (due m (Advance ceiling room) .answer)) d)
+advances b d long t e = committed long (record { kept = t .kept; buffer = e })
