@@ -115,7 +115,7 @@ unfolding added
 holds_new q q' n i anti m h l e =
     let z : length (entries q n) ≡ n = map_take_length entry_of q n (omega arith) in
     record {
-      same = ap (map entry_of) e ∙ map_append entry_of (take i (take n q)) (with_last m (moved anti 256) ∷ drop i (take n q)) ∙ rw (map_take, map_drop, net_new);
+      same = ap (map entry_of) e ∙ map_append entry_of (take i (take n q)) (with_last m (moved anti 256) ∷ drop i (take n q)) ∙ rw (map_take, map_drop entry_of, net_new);
       many = simp (length-append, length-take, length-drop) (omega arith);
     }
 
@@ -141,6 +141,6 @@ module _ (q : List (List ℕ)) (n i : ℕ) (anti : Bool) (h : i < n) (l : n ≤ 
     holds_kept e f =
         let z : length (entries q n) ≡ n = map_take_length entry_of q n l in
         record {
-          same = ap (map entry_of) f ∙ map_append entry_of (take i (take n q)) (with_last (get_or q i []) (moved anti (count_at q i)) ∷ drop (i + 1) (take n q)) ∙ rw (map_take, map_drop, add-one i) (sym (kept e));
+          same = ap (map entry_of) f ∙ map_append entry_of (take i (take n q)) (with_last (get_or q i []) (moved anti (count_at q i)) ∷ drop (i + 1) (take n q)) ∙ rw (map_take, map_drop entry_of, add-one i) (sym (kept e));
           many = rw (kept e) (simp (length-append, length-take, length-drop) (omega arith));
         }

@@ -1,0 +1,9 @@
+-- By the sign.
+use borrow.Author.Rules.{rules}
+use Rattle.queue.proofs.input.step.Goals as goal
+
+pub returns-then-anti : goal.returns-then-anti
+returns-then-anti c = rw c.if-anti.true
+
+pub returns-else-anti : goal.returns-else-anti
+returns-else-anti c = rw c.if-anti.false
