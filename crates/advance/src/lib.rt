@@ -1,5 +1,7 @@
 // The call Advance, on a lawful memory. It judges first, over shared references: how far the horizon goes (bound.rt), and what the entries before
 // it measure (walk.rt). Then it writes: the entries, what is left of each process (trim.rt), and the numbers of the whole.
+#![tactic(auto)]
+
 mod bound;
 mod trim;
 mod walk;

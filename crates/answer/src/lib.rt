@@ -1,4 +1,6 @@
 // Reading one message is finding its rule and applying it. A process that is not in the model has no rule, and with no rule nothing changes.
+#![tactic(auto)]
+
 ghost use Rattle.std.specs.Prelude.{◌≡◌};
 ghost use Rattle.definition.specs.Model.{find as firstRule, setup};
 ghost use Rattle.rule.specs.Rows.{model_of, stand_after};

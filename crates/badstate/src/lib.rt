@@ -1,6 +1,8 @@
 // Whether a state handed in may be worked on. Document 01's BadState, model included: a memory for which `lawful` says no is refused by 16.
 // The model is tested first, then the numbers of the whole with what is in transit, then process after process.
 // The lengths of the lists are tested too: most are what the types say, and there the compiler leaves the test out.
+#![tactic(auto)]
+
 ghost use Rattle.std.specs.Prelude.{◌≡◌, true, ◌≤◌, length};
 ghost use Rattle.definition.specs.BadState.{ok_process};
 ghost use Rattle.memory.specs.Memory.{process_of, shaped_at, all_of, entered, lawful as Lawful};

@@ -1,5 +1,7 @@
 // Any call, on a lawful memory: the one place where a call that was read becomes a call that is made. It has one promise for all of them, with the
 // buffer that an advance is lent; the other calls leave it as it was.
+#![tactic(auto)]
+
 ghost use Rattle.std.specs.Prelude.{◌≡◌, length};
 ghost use Rattle.memory.specs.Promise.{Ready, Commits};
 ghost use Rattle.calls.specs.Lent.{room_of};

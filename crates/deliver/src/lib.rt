@@ -1,5 +1,7 @@
 // The call Deliver, on a memory that is lawful. It is judged first, over shared references, and then carried out: so a refusal writes nothing.
 // Both work on the rows of the one process that receives.
+#![tactic(auto)]
+
 ghost use Rattle.std.specs.Prelude.{◌≡◌, ◌≤◌, ◌<◌, length};
 ghost use Rattle.definition.specs.declared.Answer.TheVariants.{Delivered};
 ghost use Rattle.definition.specs.declared.Call.TheVariants.{Deliver};
@@ -16,7 +18,7 @@ use memory::{ENTRIES, EVENTS, MAILS, OUTPUTS};
 use queue::rows::{RECEIVED, RECEIVER};
 
 // A rollback of the receiver: how many output entries and how many events it keeps, and how many of each it removes.
-#[derive(Drop)]
+#[derive(Clone, Copy)]
 pub struct Rollback {
     pub sends: usize,
     pub events: usize,
@@ -24,7 +26,7 @@ pub struct Rollback {
     pub undone: usize,
 }
 
-#[derive(Drop)]
+#[derive(Clone, Copy)]
 pub enum Plan {
     Go(Rollback),
     Refuse(u32),

@@ -1,5 +1,7 @@
 // What a rule does: where a process stands after a message that the rule answers, and the value of each send. The value of a send is told once the
 // tally is that after the effect.
+#![tactic(auto)]
+
 ghost use Rattle.std.specs.Prelude.{◌≡◌};
 ghost use Rattle.definition.specs.Model.{effect_on, value_of};
 

@@ -1,6 +1,8 @@
 // The engine's calls, as a host makes them. Each looks at the whole state first: one that is bad, model included, is refused by 16 and left as
 // it was. What follows is the call on a lawful memory, in a crate of its own. specs/Chain.antt says what they come to: a start and any calls after it
 // are a rehearsal, of which demands 2 and 3 hold.
+#![tactic(auto)]
+
 ghost use Rattle.definition.specs.declared.Call.TheVariants.{Inject, Deliver, Execute, Advance};
 ghost use Rattle.memory.specs.Promise.{Keeps, Commits, Begins};
 ghost use Rattle.std.specs.Prelude.{length};

@@ -1,6 +1,8 @@
 // The rows of one event, walked twice: to say what it comes to, and to carry it out. The first walk counts what it reads and sends and writes nothing;
 // the second puts each message down where it is made, in transit and in the output queue. Both go from row to row by `answered`, so that what is
 // counted is what is sent.
+#![tactic(auto)]
+
 ghost use Rattle.std.specs.Prelude.{◌≡◌, [], ◌∷◌, ◌+◌, ◌≤◌, leb, length};
 ghost use Rattle.std.proofs.Math.Option.{some};
 ghost use Rattle.definition.specs.Message.{last_usable};
@@ -16,7 +18,7 @@ use queue::rows::{KIND, RECEIVED, VALUE};
 use rule::Decoded;
 
 // How far an event has come: where the process stands, the next ordinal, how many messages were read and how many sent.
-#[derive(Drop)]
+#[derive(Clone, Copy)]
 pub struct Walk {
     pub stand: Stand,
     pub ordinal: u32,

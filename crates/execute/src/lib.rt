@@ -1,5 +1,7 @@
 // The call Execute: the unread event of a process. It is judged first, over shared references, and nothing is written; then what was judged is
 // carried out.
+#![tactic(auto)]
+
 ghost use Rattle.std.specs.Prelude.{◌≡◌, length};
 ghost use Rattle.definition.specs.declared.Answer.TheVariants.{Executed};
 ghost use Rattle.definition.specs.declared.Call.TheVariants.{Execute};
@@ -14,7 +16,7 @@ use memory::{ENTRIES, EVENTS, MAILS, MODE, OUTPUTS, TALLY};
 
 // An event that is due, as the history will keep it; the first row of the input queue that is not received before it; how many messages it sends;
 // and where the process stands before it.
-#[derive(Drop)]
+#[derive(Clone, Copy)]
 pub struct Due {
     pub event: Saved,
     pub from: usize,
@@ -23,7 +25,7 @@ pub struct Due {
 }
 
 // What is to be done, or the number that refuses it.
-#[derive(Drop)]
+#[derive(Clone, Copy)]
 pub enum Plan {
     Go(Due),
     No(u32),

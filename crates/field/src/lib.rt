@@ -1,5 +1,7 @@
 // A number of a model in bytes: it stands in its range, or it is the fault at its place. The readers of a rule and of a model are made of it; each
 // takes its answer apart, and leaves at once with what the answer refuses by.
+#![tactic(auto)]
+
 ghost use Rattle.std.specs.Prelude.{◌≡◌};
 ghost use Rattle.definition.specs.ModelBytes.{field as field_at};
 ghost use Rattle.field.specs.Reading.{number_fault, field_in, refusal, no_refusal};
@@ -8,14 +10,14 @@ use definition::Number;
 use definition::refusal::OUT_OF_RANGE;
 
 // A refusal: its number, and the place of the number at fault.
-#[derive(Drop)]
+#[derive(Clone, Copy)]
 pub struct Fault {
     pub number: u32,
     pub at: usize,
 }
 
 // What a number, or a count of things, was read as, with the place of the next number; or the refusal.
-#[derive(Drop)]
+#[derive(Clone, Copy)]
 pub enum FieldRead {
     Got { value: u32, next: usize },
     Refused(Fault),

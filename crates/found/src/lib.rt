@@ -1,5 +1,7 @@
 // The rule that a message finds among the rules of a process: rows of lent memory, searched from the first, of which only the one that answers is
 // decoded.
+#![tactic(auto)]
+
 ghost use Rattle.std.specs.Prelude.{◌≡◌, ◌&&◌, eqb};
 ghost use Rattle.found.specs.Search.{found_among};
 
@@ -7,7 +9,7 @@ use definition::lent::RuleRow;
 use rule::{Decoded, KIND, MODE};
 
 // The rule for a mode and a kind, where there is one.
-#[derive(Drop)]
+#[derive(Clone, Copy)]
 pub enum Found {
     Rule(Decoded),
     Nothing,

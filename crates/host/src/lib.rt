@@ -1,6 +1,8 @@
 // The host keeps the processes as a list of its own, apart from the engine's state: the lowest unread time over that list, and the step of one
 // process's mode and tally where they stand. What takes a reference to a struct is thin: the deciding is done by value, in functions that any
 // caller can use.
+#![tactic(auto)]
+
 ghost use Rattle.std.specs.Prelude.{◌≡◌, min};
 ghost use Rattle.definition.specs.Host.{lowest_unread};
 ghost use Rattle.host.specs.Steps.{answered, refusal, standing, outcome};
@@ -11,14 +13,14 @@ use definition::refusal::{BAD_ARGUMENT, BAD_STATE};
 use definition::{Stand, Summary, Time};
 
 // What a step answers: done, or the number that refuses it.
-#[derive(Drop)]
+#[derive(Clone, Copy)]
 pub enum Stepped {
     Done,
     Refused(u32),
 }
 
 // Where a step leaves a process, and what it answers.
-#[derive(Drop)]
+#[derive(Clone, Copy)]
 pub struct Outcome {
     pub stand: Stand,
     pub answer: Stepped,

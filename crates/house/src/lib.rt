@@ -1,5 +1,6 @@
 // Numbers of the house: read at a place of the input, written at a place of a buffer, and how many bytes they take. What they are is said in
 // `definition`; nothing is asked of a caller.
+#![tactic(auto)]
 
 ghost use Rattle.std.specs.Prelude.{◌≡◌, length};
 ghost use Rattle.definition.specs.House.{number_at, house};
@@ -9,7 +10,7 @@ use definition::Number;
 use definition::refusal::{CUT, OVERLONG, TOO_BIG};
 
 // The number was written and the next one goes to this place; or it does not fit, and no byte was written.
-#[derive(Drop)]
+#[derive(Clone, Copy)]
 pub enum Written {
     Next(usize),
     Short,

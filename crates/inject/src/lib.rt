@@ -1,4 +1,6 @@
 // The call Inject, on a memory that is lawful: the request is judged before anything is written.
+#![tactic(auto)]
+
 ghost use Rattle.std.specs.Prelude.{◌≡◌, ◌≤◌, get_or};
 ghost use Rattle.definition.specs.declared.Call.TheVariants.{Inject};
 ghost use Rattle.memory.specs.Promise.{Ready, Keeps};

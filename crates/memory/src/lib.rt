@@ -1,5 +1,7 @@
 // The state in lent memory: what it says (specs/Memory.antt) and what every call promises of it (specs/Promise.antt). Here are the words of its
 // first rows by name, and such a row with other counts.
+#![tactic(auto)]
+
 ghost use Rattle.std.specs.Prelude.{◌≡◌, ◌≤◌};
 ghost use Rattle.memory.specs.Memory.{with_counts, with_mails};
 

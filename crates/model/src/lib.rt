@@ -1,6 +1,8 @@
 // The reader of models. Each reader below answers how many things it read with the place of the next number, or the first fault from the left; that
 // answer is taken apart where it arrives, and a refusal leaves at once. A model is read twice by the same functions: over no rows, which judges it
 // and writes nothing, and, once it is accepted, over the rows that are lent.
+#![tactic(auto)]
+
 ghost use Rattle.std.specs.Prelude.{◌≡◌, ◌-◌, ◌≤◌, length, set};
 ghost use Rattle.definition.specs.ModelBytes.{rules_at, setup_at, setups_at, model_in};
 ghost use Rattle.definition.specs.Model.{Setup};
@@ -187,7 +189,7 @@ pub fn has_room(model: &[Rules]) -> bool
 }
 
 // The model was accepted and has so many processes; or it was refused.
-#[derive(Drop)]
+#[derive(Clone, Copy)]
 pub enum ModelRead {
     Accepted { processes: u32 },
     Refused(Fault),

@@ -27,7 +27,7 @@ const LOWEST: u32 = 127;
 const HIGHEST: u32 = 385;
 
 // An arrival judged before it is made: how many rows there would be, and whether a net count would pass 129 or -129.
-#[derive(Drop)]
+#[derive(Clone, Copy)]
 pub struct Verdict {
     pub rows: usize,
     pub passes: bool,

@@ -1,6 +1,8 @@
 // One rehearsal from a run file, turn by turn: `begin` reads the model and prints its line, `step` works the call at a place and prints its lines.
 // What is printed stands at the start of a lent text; whoever lends it has only to move the bytes. Nothing is asked of a caller: a memory that is
 // not lawful, a text that is too short and an input that is too long are refused by their numbers.
+#![tactic(auto)]
+
 ghost use Rattle.std.specs.Prelude.{◌≡◌, true, ◌&&◌, ◌≤◌, length};
 ghost use Rattle.definition.specs.Program.{fault_line};
 ghost use Rattle.runfile.specs.declared.HeadRead.TheVariants.{Model as Stands};
@@ -19,7 +21,7 @@ use runfile::{CallRead, HeadRead};
 use text::Part;
 
 // A turn: how many bytes of text it printed, and the place of the next call, which is the end of the input when nothing is left; or the refusal.
-#[derive(Drop)]
+#[derive(Clone, Copy)]
 pub enum Progress {
     Printed { end: usize, next: usize },
     Refused(u32),

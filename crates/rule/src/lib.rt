@@ -1,12 +1,14 @@
 // A rule decoded from its row, and the row of a rule (specs/Rows.antt says what the words are): the enums of document 01 inside the send, inside the
 // rule, all by value. Any row says a rule.
+#![tactic(auto)]
+
 ghost use Rattle.std.specs.Prelude.{◌≡◌, ◌≤◌};
 ghost use Rattle.rule.specs.Rows.{effect_of, value_of, send_at, decoded, effect_tag, effect_number, value_tag, value_number, encoded};
 
 use definition::lent::RuleRow;
 use definition::{Effect, Send, Value};
 
-#[derive(Drop)]
+#[derive(Clone, Copy)]
 pub struct Decoded {
     pub mode: u32,
     pub kind: u32,

@@ -1,5 +1,7 @@
 // A rule of a model in bytes. Each reader below answers what it read with the place of the next number, or the first fault from the left; that
 // answer is taken apart where it arrives, and a refusal leaves at once.
+#![tactic(auto)]
+
 ghost use Rattle.std.specs.Prelude.{◌≡◌, ◌||◌, ◌≤◌, leb, ltb};
 ghost use Rattle.definition.specs.ModelBytes.{mapped, effect_at, value_at, send_at, sends_at, rule_at};
 ghost use Rattle.field.specs.Reading.{refusal};
@@ -11,25 +13,25 @@ use definition::{Effect, Send, Value};
 use field::{Fault, FieldRead, field, field_fault, no_refusal};
 use rule::Decoded;
 
-#[derive(Drop)]
+#[derive(Clone, Copy)]
 enum EffectRead {
     Got { effect: Effect, next: usize },
     Refused(Fault),
 }
 
-#[derive(Drop)]
+#[derive(Clone, Copy)]
 enum ValueRead {
     Got { value: Value, next: usize },
     Refused(Fault),
 }
 
-#[derive(Drop)]
+#[derive(Clone, Copy)]
 enum SendRead {
     Got { send: Send, next: usize },
     Refused(Fault),
 }
 
-#[derive(Drop)]
+#[derive(Clone, Copy)]
 pub enum RuleRead {
     Got { rule: Decoded, next: usize },
     Refused(Fault),

@@ -1,5 +1,7 @@
 // Whether rows in lent memory hold an accepted model: their shape (specs/Rows.antt of the crate `rule`), then every range and order that document
 // 01 asks of a model. A call that is handed rows of any other kind refuses them by 16. Each test that fails leaves at once.
+#![tactic(auto)]
+
 ghost use Rattle.std.specs.Prelude.{◌≡◌, [], ◌∷◌, ◌≤◌, ◌<◌, length, take, drop};
 ghost use Rattle.definition.specs.Lists.{all, compare_keys, is_less};
 ghost use Rattle.definition.specs.Model.{ok_effect, ok_value, ok_send, ok_rule};

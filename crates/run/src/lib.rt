@@ -1,6 +1,8 @@
 // A run of many calls, from a start: the calls that stand in the input are made one after the other, each on the state that the one before left.
 // The state is looked at once, by the start; what every call promises says that the state after it is lawful again. Nothing is asked of a caller:
 // a model or lists that a start refuses are refused here by the same number, and the run stops where a row or the room for an advance is wanting.
+#![tactic(auto)]
+
 ghost use Rattle.std.specs.Prelude.{◌≡◌, ◌+◌, ◌≤◌, ◌<◌, length};
 ghost use Rattle.definition.specs.Program.{buffer_length};
 ghost use Rattle.calls.specs.Lent.{room_of};
@@ -17,7 +19,7 @@ use definition::{Answer, Call};
 use runfile::CallRead;
 
 // How many calls were made, the place of the next one, and how many bytes of the record were written; or the refusal.
-#[derive(Drop)]
+#[derive(Clone, Copy)]
 pub enum Ran {
     Done {
         calls: usize,
@@ -28,7 +30,7 @@ pub enum Ran {
 }
 
 // The call that is made next, with the place after it; or there is none.
-#[derive(Drop)]
+#[derive(Clone, Copy)]
 enum Turn {
     Make { call: Call, next: usize },
     Stop,

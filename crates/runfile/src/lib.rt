@@ -1,5 +1,7 @@
 // The run file: where its model stands, and the call at a place. A fault is answered with its place, counted from the start of the input; each
 // house number's answer is taken apart where it arrives, and a refusal leaves at once.
+#![tactic(auto)]
+
 ghost use Rattle.std.specs.Prelude.{◌≡◌};
 ghost use Rattle.definition.specs.Program.{call_by, call_at};
 ghost use Rattle.runfile.specs.Reading.{refused, call_parsed, head_of};
@@ -9,21 +11,21 @@ use definition::refusal::{CUT, OUT_OF_RANGE, TOO_LONG};
 use definition::{Call, Number};
 
 // A refusal: its number, and the place of the number at fault.
-#[derive(Drop)]
+#[derive(Clone, Copy)]
 pub struct Fault {
     pub number: u32,
     pub at: usize,
 }
 
 // A call with the place of the next one, or the refusal.
-#[derive(Drop)]
+#[derive(Clone, Copy)]
 pub enum CallRead {
     Got { call: Call, next: usize },
     Refused(Fault),
 }
 
 // The model's first byte and how many it has, or the refusal.
-#[derive(Drop)]
+#[derive(Clone, Copy)]
 pub enum HeadRead {
     Model { at: usize, size: usize },
     Refused(Fault),

@@ -1,5 +1,7 @@
 // The call Start: a new state in the memory that is lent, whatever that memory said before. Only first rows are written: with counts of 0 no other
 // row says anything.
+#![tactic(auto)]
+
 ghost use Rattle.std.specs.Prelude.{◌≡◌, [], ◌≤◌, length, get_or};
 ghost use Rattle.memory.specs.Memory.{all_of};
 ghost use Rattle.memory.specs.Promise.{sized_rows, sized_for, Begins};

@@ -1,5 +1,7 @@
 // A model in lent memory: how many processes it has, where each stands at first, and which rows are its rules (specs/Rows.antt of the crate `rule`
 // says what the words are). Every function takes any memory: rows that are not there say 0, and counts past the rows end with them.
+#![tactic(auto)]
+
 ghost use Rattle.std.specs.Prelude.{◌≡◌, ◌<◌};
 ghost use Rattle.rule.specs.Rows.{heading, rule_rows, setup_of, processes_of};
 
