@@ -45,8 +45,8 @@ process_of own inputs outputs =
       history = saved_at own (number own 2);
     }
 
-abbrev pub field_own : Memory → ℕ → List (List ℕ)
-field_own m p = get_or m.own p []
+abbrev pub own_at : Memory → ℕ → List (List ℕ)
+own_at m p = get_or m.own p []
 
 abbrev pub input_at : Memory → ℕ → List (List ℕ)
 input_at m p = get_or m.inputs p []
@@ -55,11 +55,11 @@ abbrev pub output_at : Memory → ℕ → List (List ℕ)
 output_at m p = get_or m.outputs p []
 
 abbrev pub process_at : Memory → ℕ → Process
-process_at m p = process_of (field_own m p) (input_at m p) (output_at m p)
+process_at m p = process_of (own_at m p) (input_at m p) (output_at m p)
 
 -- the numbers of the whole
 abbrev pub whole : Memory → List (List ℕ)
-whole m = field_own m 8
+whole m = own_at m 8
 
 -- a process's first row with other counts, and the numbers of the whole with another count of rows in transit
 abbrev pub with_counts : List ℕ → ℕ → ℕ → ℕ → List ℕ
@@ -84,8 +84,8 @@ state_of m =
 
 unfoldable pub shaped_at : Memory → ℕ → Bool
 shaped_at m p =
-    eqb (length (input_at m p)) 64 && (eqb (length (output_at m p)) 64 && (eqb (length (field_own m p)) 33
-    && (leb (number (field_own m p) 0) 64 && (leb (number (field_own m p) 1) 64 && leb (number (field_own m p) 2) 32))))
+    eqb (length (input_at m p)) 64 && (eqb (length (output_at m p)) 64 && (eqb (length (own_at m p)) 33
+    && (leb (number (own_at m p) 0) 64 && (leb (number (own_at m p) 1) 64 && leb (number (own_at m p) 2) 32))))
 
 unfoldable pub shaped : Memory → Bool
 unfolding shaped_model all_of shaped_at

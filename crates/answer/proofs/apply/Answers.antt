@@ -1,0 +1,19 @@
+-- By what `find` found: its rule is applied, or the process stands where it stood.
+use mathlib.Core.Path.{◌∙◌}
+use borrow.Author.Rules.{rules}
+use Rattle.answer.proofs.Search.{stood}
+use Rattle.answer.proofs.apply.Goals as goal
+
+pub returns-in-Rule : goal.returns-in-Rule
+returns-in-Rule c =
+    let a = c.args in
+    let searched = c.find-found in
+    let found = c.found-1 in
+    c.after.ensures
+    ∙ stood a.model.now a.process a.stand.mode a.kind searched.result _ a.stand a.value searched.ensures found.given.1
+
+pub returns-in-Nothing : goal.returns-in-Nothing
+returns-in-Nothing c =
+    let a = c.args in
+    let searched = c.find-found in
+    stood a.model.now a.process a.stand.mode a.kind searched.result _ a.stand a.value searched.ensures c.in-Nothing.is

@@ -1,0 +1,42 @@
+-- Each test that fails makes the definition false; where all hold, the sends decide.
+use mathlib.Core.Path.{sym, ◌∙◌}
+use borrow.Author.Tests.{not-true, not-false}
+use borrow.Author.Rules.{rules}
+use Rattle.rulecheck.proofs.Steps.{rule_mode, rule_kind, rule_next, rule_effect, rule_sends}
+use Rattle.rulecheck.proofs.ok_rule.Goals as goal
+
+pub returns-then-rule-gt7 : goal.returns-then-rule-gt7
+returns-then-rule-gt7 c =
+    let a = c.args in
+    rule_mode a.processes a.rule c.if-rule-gt7.true
+
+pub returns-then-rule-gt7-2 : goal.returns-then-rule-gt7-2
+returns-then-rule-gt7-2 c =
+    let a = c.args in
+    let if1 = c.if-rule-gt7 in
+    rule_kind a.processes a.rule if1.false c.if-rule-gt7-2.true
+
+pub returns-then-rule-gt7-3 : goal.returns-then-rule-gt7-3
+returns-then-rule-gt7-3 c =
+    let a = c.args in
+    let if1 = c.if-rule-gt7 in
+    let if2 = c.if-rule-gt7-2 in
+    rule_next a.processes a.rule if1.false if2.false c.if-rule-gt7-3.true
+
+pub returns-then-not-ok_effect : goal.returns-then-not-ok_effect
+returns-then-not-ok_effect c =
+    let a = c.args in
+    let if1 = c.if-rule-gt7 in
+    let if2 = c.if-rule-gt7-2 in
+    let if3 = c.if-rule-gt7-3 in
+    rule_effect a.processes a.rule if1.false if2.false if3.false (sym c.ok_effect.ensures ∙ not-true _ c.if-not-ok_effect.true-raw)
+
+pub returns : goal.returns
+returns c =
+    let a = c.args in
+    let if1 = c.if-rule-gt7 in
+    let if2 = c.if-rule-gt7-2 in
+    let if3 = c.if-rule-gt7-3 in
+    let ok-effect = c.ok_effect in
+    c.ok_sends.ensures
+    ∙ rule_sends a.processes a.rule if1.false if2.false if3.false (sym ok-effect.ensures ∙ not-false _ c.if-not-ok_effect.false-raw)
