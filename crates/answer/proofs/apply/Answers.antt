@@ -7,13 +7,10 @@ use Rattle.answer.proofs.apply.Goals as goal
 pub returns-in-Rule : goal.returns-in-Rule
 returns-in-Rule c =
     let a = c.args in
-    let searched = c.find-found in
-    let found = c.found-1 in
     c.after.ensures
-    ∙ stood a.model.now a.process a.stand.mode a.kind searched.result _ a.stand a.value searched.ensures found.given.1
+    ∙ stood a.model.now a.process a.stand.mode a.kind c.find-found.result _ a.stand a.value c.find-found.ensures c.in-Rule.is
 
 pub returns-in-Nothing : goal.returns-in-Nothing
 returns-in-Nothing c =
     let a = c.args in
-    let searched = c.find-found in
-    stood a.model.now a.process a.stand.mode a.kind searched.result _ a.stand a.value searched.ensures c.in-Nothing.is
+    stood a.model.now a.process a.stand.mode a.kind c.find-found.result _ a.stand a.value c.find-found.ensures c.in-Nothing.is

@@ -11,8 +11,7 @@ use Rattle.answer.proofs.find.Goals as goal
 pub returns-then-size-process : goal.returns-then-size-process
 returns-then-size-process c =
     let a = c.args in
-    let processes = c.processes in
-    found_past a.model.now a.process a.mode a.kind (omega (arith, c.size.ensures, processes.ensures))
+    found_past a.model.now a.process a.mode a.kind (omega (arith, c.size.ensures, c.processes.ensures))
 
 pub returns-then-model-process : goal.returns-then-model-process
 returns-then-model-process c =
@@ -22,8 +21,6 @@ returns-then-model-process c =
 pub returns : goal.returns
 returns c =
     let a = c.args in
-    let processes = c.processes in
-    let size = c.size in
     c.find_among.ensures
     ∙ ap (λ (l : List (List ℕ)). found_among l a.mode a.kind) c.rules.ensures
-    ∙ found_at a.model.now a.process a.mode a.kind (omega (arith, size.ensures, processes.ensures))
+    ∙ found_at a.model.now a.process a.mode a.kind (omega (arith, c.size.ensures, c.processes.ensures))

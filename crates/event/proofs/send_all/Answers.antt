@@ -20,13 +20,13 @@ pub returns-then-rule-eq1 : goal.returns-then-rule-eq1
 returns-then-rule-eq1 c = let a = c.args in rw (rule_one a.rule a.process a.time a.ordinal a.tally a.value c.if-rule-eq1.true) c.send-one.ensures.joined
 
 pub overflow_add-n : goal.overflow_add-n
-overflow_add-n c = let a = c.args in let g = c.well_formed in omega (arith, c.send-one.ensures.value, rule_first a.rule a.process a.time a.ordinal a.tally a.value c.if-rule-eq0.false, c.requires.room_for.0)
+overflow_add-n c = let a = c.args in omega (arith, c.send-one.ensures.value, rule_first a.rule a.process a.time a.ordinal a.tally a.value c.if-rule-eq0.false, c.requires.room_for.0)
 
 pub overflow_add-k : goal.overflow_add-k
-overflow_add-k c = let a = c.args in let g = c.well_formed in omega (arith, c.send-one.ensures.value, rule_first a.rule a.process a.time a.ordinal a.tally a.value c.if-rule-eq0.false, c.requires.room_for.1)
+overflow_add-k c = let a = c.args in omega (arith, c.send-one.ensures.value, rule_first a.rule a.process a.time a.ordinal a.tally a.value c.if-rule-eq0.false, c.requires.room_for.1)
 
 pub send-requires : goal.send-requires
-send-requires c = let a = c.args in let f = ap length (rule_two a.rule a.process a.time a.ordinal a.tally a.value c.if-rule-eq0.false c.if-rule-eq1.false) ∙ length-append (send_all a.process a.time a.ordinal a.tally a.value (a.rule.first ∷ [])) (send_all a.process a.time (a.ordinal + 1) a.tally a.value (a.rule.second ∷ [])) in record { time_le_last_usable = c.requires.time_le_last_usable.0; room_for = (omega (arith, f, c.send-one.ensures.value, c.requires.room_for.0, c.send-one.auto.1.1.1.1.1.1.0), omega (arith, f, c.send-one.ensures.value, c.requires.room_for.1, c.send-one.auto.1.1.1.1.1.1.1.1.0)) }
+send-requires c = let a = c.args in let f = ap length (rule_two a.rule a.process a.time a.ordinal a.tally a.value c.if-rule-eq0.false c.if-rule-eq1.false) ∙ length-append (send_all a.process a.time a.ordinal a.tally a.value (a.rule.first ∷ [])) (send_all a.process a.time (a.ordinal + 1) a.tally a.value (a.rule.second ∷ [])) in record { time_le_last_usable = c.requires.time_le_last_usable.0; room_for = (omega (arith, f, c.send-one.ensures.value, c.requires.room_for.0, c.send-one.auto.transit), omega (arith, f, c.send-one.ensures.value, c.requires.room_for.1, c.send-one.auto.output)) }
 
 pub returns : goal.returns
 returns c = let a = c.args in rw (rule_two a.rule a.process a.time a.ordinal a.tally a.value c.if-rule-eq0.false c.if-rule-eq1.false) (joined_then a.n a.k a.transit.now a.output.now _ _ (send_all a.process a.time a.ordinal a.tally a.value (a.rule.first ∷ [])) (send_all a.process a.time (a.ordinal + 1) a.tally a.value (a.rule.second ∷ [])) c.send-one.result _ _ c.send-one.ensures.value c.send-one.ensures.joined c.send.ensures.joined)

@@ -11,5 +11,4 @@ returns-then-rules-next c = last_row itself c.args.rules.now c.args.i c.requires
 pub returns : goal.returns
 returns c =
     let a = c.args in
-    let if1 = c.if-rules-next in
-    c.before-2.ensures ∙ row_next itself a.rules.now a.i c.requires row_key if1.false
+    c.before-2.ensures ∙ row_next itself a.rules.now a.i c.requires row_key c.if-rules-next.false

@@ -14,14 +14,10 @@ returns-then-count-lt1 c = lawful_none c.args.model.now (omega (arith, c.process
 pub returns-then-count-gt8 : goal.returns-then-count-gt8
 returns-then-count-gt8 c =
     let a = c.args in
-    let if1 = c.if-model-ne8 in
-    let processes = c.processes-count in
-    lawful_many a.model.now if1.false (omega (arith, processes.ensures))
+    lawful_many a.model.now c.if-model-ne8.false (omega (arith, c.processes-count.ensures))
 
 pub returns : goal.returns
 returns c =
     let a = c.args in
-    let if1 = c.if-model-ne8 in
-    let processes = c.processes-count in
-    (rw processes.ensures at c.ok_processes.ensures)
-    ∙ lawful_processes a.model.now if1.false (omega (arith, processes.ensures)) (omega (arith, processes.ensures))
+    (rw c.processes-count.ensures at c.ok_processes.ensures)
+    ∙ lawful_processes a.model.now c.if-model-ne8.false (omega (arith, c.processes-count.ensures)) (omega (arith, c.processes-count.ensures))

@@ -12,29 +12,21 @@ returns-then-rows-ne65 c = process_short c.args.processes c.args.rows.now c.if-r
 pub returns-then-count-gt64 : goal.returns-then-count-gt64
 returns-then-count-gt64 c =
     let a = c.args in
-    let if1 = c.if-rows-ne65 in
-    process_count a.processes a.rows.now if1.false (omega (arith, c.count.ensures))
+    process_count a.processes a.rows.now c.if-rows-ne65.false (omega (arith, c.count.ensures))
 
 pub returns-then-stand-gt7 : goal.returns-then-stand-gt7
 returns-then-stand-gt7 c =
     let a = c.args in
-    let if1 = c.if-rows-ne65 in
-    let first = c.first-stand in
-    process_mode a.processes a.rows.now if1.false (omega (arith, ap (λ (s : Stand). s.mode) first.ensures))
+    process_mode a.processes a.rows.now c.if-rows-ne65.false (omega (arith, ap (λ (s : Stand). s.mode) c.first-stand.ensures))
 
 pub returns-then-stand-gt-LARGEST : goal.returns-then-stand-gt-LARGEST
 returns-then-stand-gt-LARGEST c =
     let a = c.args in
-    let if1 = c.if-rows-ne65 in
-    let first = c.first-stand in
-    process_tally a.processes a.rows.now if1.false (omega (arith, ap (λ (s : Stand). s.mode) first.ensures)) (omega (arith, ap (λ (s : Stand). s.tally) first.ensures))
+    process_tally a.processes a.rows.now c.if-rows-ne65.false (omega (arith, ap (λ (s : Stand). s.mode) c.first-stand.ensures)) (omega (arith, ap (λ (s : Stand). s.tally) c.first-stand.ensures))
 
 pub returns : goal.returns
 returns c =
     let a = c.args in
-    let if1 = c.if-rows-ne65 in
-    let count = c.count in
-    let first = c.first-stand in
     c.ok_rules.ensures
     ∙ ap (ok_rows a.processes) c.rules.ensures
-    ∙ process_rules a.processes a.rows.now if1.false (omega (arith, count.ensures)) (omega (arith, ap (λ (s : Stand). s.mode) first.ensures)) (omega (arith, ap (λ (s : Stand). s.tally) first.ensures))
+    ∙ process_rules a.processes a.rows.now c.if-rows-ne65.false (omega (arith, c.count.ensures)) (omega (arith, ap (λ (s : Stand). s.mode) c.first-stand.ensures)) (omega (arith, ap (λ (s : Stand). s.tally) c.first-stand.ensures))

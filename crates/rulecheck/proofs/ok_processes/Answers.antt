@@ -22,22 +22,17 @@ bounds-model-p c = omega (arith, c.size-end.ensures, c.requires)
 pub returns-then-not-ok_process : goal.returns-then-not-ok_process
 returns-then-not-ok_process c =
     let a = c.args in
-    let size = c.size-end in
     let loop = c.loop-p in
-    let loop-test = c.loop-p-test in
-    sym (loop.invariant.1 ∙ all_wrong (ok_process a.processes) a.model.now [] a.processes loop.p (omega (arith, loop-test.true, size.ensures)) c.requires (sym c.ok_process.ensures ∙ not-true _ c.if-not-ok_process.true-raw))
+    sym (loop.invariant.1 ∙ all_wrong (ok_process a.processes) a.model.now [] a.processes loop.p (omega (arith, c.loop-p-test.true, c.size-end.ensures)) c.requires (sym c.ok_process.ensures ∙ not-true _ c.if-not-ok_process.true-raw))
 
 pub loop-p-preserved : goal.loop-p-preserved
 loop-p-preserved c =
     let a = c.args in
-    let size = c.size-end in
     let loop = c.loop-p in
-    let loop-test = c.loop-p-test in
-    (search rules, loop.invariant.1 ∙ all_right (ok_process a.processes) a.model.now [] a.processes loop.p (omega (arith, loop-test.true, size.ensures)) c.requires (sym c.ok_process.ensures ∙ not-false _ c.if-not-ok_process.false-raw))
+    (search rules, loop.invariant.1 ∙ all_right (ok_process a.processes) a.model.now [] a.processes loop.p (omega (arith, c.loop-p-test.true, c.size-end.ensures)) c.requires (sym c.ok_process.ensures ∙ not-false _ c.if-not-ok_process.false-raw))
 
 pub returns : goal.returns
 returns c =
     let a = c.args in
-    let size = c.size-end in
     let loop = c.loop-p in
-    sym (loop.invariant.1 ∙ all_done (ok_process a.processes) a.model.now [] a.processes loop.p (omega (arith, size.ensures)))
+    sym (loop.invariant.1 ∙ all_done (ok_process a.processes) a.model.now [] a.processes loop.p (omega (arith, c.size-end.ensures)))

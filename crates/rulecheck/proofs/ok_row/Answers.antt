@@ -9,9 +9,7 @@ use Rattle.rulecheck.proofs.ok_row.Goals as goal
 pub returns-then-shaped : goal.returns-then-shaped
 returns-then-shaped c =
     let a = c.args in
-    let shaped = c.shaped in
-    let if1 = c.if-shaped in
-    rw (sym shaped.ensures ∙ if1.true) (c.ok_rule.ensures ∙ ap (λ (d : Decoded). ok_rule a.processes (rule_of d)) c.decode.ensures)
+    rw (sym c.shaped.ensures ∙ c.if-shaped.true) (c.ok_rule.ensures ∙ ap (λ (d : Decoded). ok_rule a.processes (rule_of d)) c.decode.ensures)
 
 pub returns : goal.returns
 returns c = rw (sym c.shaped.ensures ∙ c.if-shaped.false)

@@ -13,30 +13,20 @@ returns-then-rule-gt7 c =
 pub returns-then-rule-gt7-2 : goal.returns-then-rule-gt7-2
 returns-then-rule-gt7-2 c =
     let a = c.args in
-    let if1 = c.if-rule-gt7 in
-    rule_kind a.processes a.rule if1.false c.if-rule-gt7-2.true
+    rule_kind a.processes a.rule c.if-rule-gt7.false c.if-rule-gt7-2.true
 
 pub returns-then-rule-gt7-3 : goal.returns-then-rule-gt7-3
 returns-then-rule-gt7-3 c =
     let a = c.args in
-    let if1 = c.if-rule-gt7 in
-    let if2 = c.if-rule-gt7-2 in
-    rule_next a.processes a.rule if1.false if2.false c.if-rule-gt7-3.true
+    rule_next a.processes a.rule c.if-rule-gt7.false c.if-rule-gt7-2.false c.if-rule-gt7-3.true
 
 pub returns-then-not-ok_effect : goal.returns-then-not-ok_effect
 returns-then-not-ok_effect c =
     let a = c.args in
-    let if1 = c.if-rule-gt7 in
-    let if2 = c.if-rule-gt7-2 in
-    let if3 = c.if-rule-gt7-3 in
-    rule_effect a.processes a.rule if1.false if2.false if3.false (sym c.ok_effect.ensures ∙ not-true _ c.if-not-ok_effect.true-raw)
+    rule_effect a.processes a.rule c.if-rule-gt7.false c.if-rule-gt7-2.false c.if-rule-gt7-3.false (sym c.ok_effect.ensures ∙ not-true _ c.if-not-ok_effect.true-raw)
 
 pub returns : goal.returns
 returns c =
     let a = c.args in
-    let if1 = c.if-rule-gt7 in
-    let if2 = c.if-rule-gt7-2 in
-    let if3 = c.if-rule-gt7-3 in
-    let ok-effect = c.ok_effect in
     c.ok_sends.ensures
-    ∙ rule_sends a.processes a.rule if1.false if2.false if3.false (sym ok-effect.ensures ∙ not-false _ c.if-not-ok_effect.false-raw)
+    ∙ rule_sends a.processes a.rule c.if-rule-gt7.false c.if-rule-gt7-2.false c.if-rule-gt7-3.false (sym c.ok_effect.ensures ∙ not-false _ c.if-not-ok_effect.false-raw)

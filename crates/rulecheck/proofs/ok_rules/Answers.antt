@@ -13,26 +13,19 @@ pub returns-then-not-ok_row : goal.returns-then-not-ok_row
 returns-then-not-ok_row c =
     let a = c.args in
     let loop = c.loop-i in
-    let loop-test = c.loop-i-test in
-    sym (loop.invariant.1 ∙ walk_wrong itself a.rules.now loop.i loop-test.true (ok_row a.processes) row_key (sym c.ok_row.ensures ∙ c.if-not-ok_row.true))
+    sym (loop.invariant.1 ∙ walk_wrong itself a.rules.now loop.i c.loop-i-test.true (ok_row a.processes) row_key (sym c.ok_row.ensures ∙ c.if-not-ok_row.true))
 
 pub returns-then-not-ascends_at : goal.returns-then-not-ascends_at
 returns-then-not-ascends_at c =
     let a = c.args in
     let loop = c.loop-i in
-    let loop-test = c.loop-i-test in
-    let ok-row = c.ok_row in
-    let if1 = c.if-not-ok_row in
-    sym (loop.invariant.1 ∙ walk_unordered itself a.rules.now loop.i loop-test.true (ok_row a.processes) row_key (yes_said ok-row.ensures if1.false) (sym c.ascends_at.ensures ∙ c.if-not-ascends_at.true))
+    sym (loop.invariant.1 ∙ walk_unordered itself a.rules.now loop.i c.loop-i-test.true (ok_row a.processes) row_key (sym c.ok_row.ensures ∙ c.if-not-ok_row.false) (sym c.ascends_at.ensures ∙ c.if-not-ascends_at.true))
 
 pub loop-i-preserved : goal.loop-i-preserved
 loop-i-preserved c =
     let a = c.args in
     let loop = c.loop-i in
-    let loop-test = c.loop-i-test in
-    let ok-row = c.ok_row in
-    let if1 = c.if-not-ok_row in
-    (search rules, loop.invariant.1 ∙ walk_right itself a.rules.now loop.i loop-test.true (ok_row a.processes) row_key (yes_said ok-row.ensures if1.false) (sym c.ascends_at.ensures ∙ c.if-not-ascends_at.false))
+    (search rules, loop.invariant.1 ∙ walk_right itself a.rules.now loop.i c.loop-i-test.true (ok_row a.processes) row_key (sym c.ok_row.ensures ∙ c.if-not-ok_row.false) (sym c.ascends_at.ensures ∙ c.if-not-ascends_at.false))
 
 pub returns : goal.returns
 returns c =

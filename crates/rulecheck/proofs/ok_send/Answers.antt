@@ -12,28 +12,19 @@ returns-then-processes-send c =
 pub returns-then-send-lt1 : goal.returns-then-send-lt1
 returns-then-send-lt1 c =
     let a = c.args in
-    let if1 = c.if-processes-send in
-    send_soon a.processes a.send if1.false c.if-send-lt1.true
+    send_soon a.processes a.send c.if-processes-send.false c.if-send-lt1.true
 
 pub returns-then-send-gt65535 : goal.returns-then-send-gt65535
 returns-then-send-gt65535 c =
     let a = c.args in
-    let if1 = c.if-processes-send in
-    let if2 = c.if-send-lt1 in
-    send_late a.processes a.send if1.false if2.false c.if-send-gt65535.true
+    send_late a.processes a.send c.if-processes-send.false c.if-send-lt1.false c.if-send-gt65535.true
 
 pub returns-then-send-gt7 : goal.returns-then-send-gt7
 returns-then-send-gt7 c =
     let a = c.args in
-    let if1 = c.if-processes-send in
-    let if2 = c.if-send-lt1 in
-    let if3 = c.if-send-gt65535 in
-    send_kind a.processes a.send if1.false if2.false if3.false c.if-send-gt7.true
+    send_kind a.processes a.send c.if-processes-send.false c.if-send-lt1.false c.if-send-gt65535.false c.if-send-gt7.true
 
 pub returns : goal.returns
 returns c =
     let a = c.args in
-    let if1 = c.if-processes-send in
-    let if2 = c.if-send-lt1 in
-    let if3 = c.if-send-gt65535 in
-    c.ok_value.ensures ∙ send_value a.processes a.send if1.false if2.false if3.false c.if-send-gt7.false
+    c.ok_value.ensures ∙ send_value a.processes a.send c.if-processes-send.false c.if-send-lt1.false c.if-send-gt65535.false c.if-send-gt7.false

@@ -13,21 +13,14 @@ returns-then-rule-eq0 c =
 pub returns-then-not-ok_send : goal.returns-then-not-ok_send
 returns-then-not-ok_send c =
     let a = c.args in
-    let if1 = c.if-rule-eq0 in
-    sends_wrong a.processes a.rule.first a.rule.second a.rule.count if1.false (sym c.ok_send.ensures ∙ not-true _ c.if-not-ok_send.true-raw)
+    sends_wrong a.processes a.rule.first a.rule.second a.rule.count c.if-rule-eq0.false (sym c.ok_send.ensures ∙ not-true _ c.if-not-ok_send.true-raw)
 
 pub returns-then-rule-eq1 : goal.returns-then-rule-eq1
 returns-then-rule-eq1 c =
     let a = c.args in
-    let ok-send = c.ok_send in
-    let if2 = c.if-not-ok_send in
-    sends_one a.processes a.rule.first a.rule.second a.rule.count c.if-rule-eq1.true (sym ok-send.ensures ∙ not-false _ if2.false)
+    sends_one a.processes a.rule.first a.rule.second a.rule.count c.if-rule-eq1.true (sym c.ok_send.ensures ∙ not-false _ c.if-not-ok_send.false-raw)
 
 pub returns : goal.returns
 returns c =
     let a = c.args in
-    let if1 = c.if-rule-eq0 in
-    let ok-send = c.ok_send in
-    let if2 = c.if-not-ok_send in
-    let if3 = c.if-rule-eq1 in
-    sends_two a.processes a.rule.first a.rule.second a.rule.count _ if1.false if3.false (sym ok-send.ensures ∙ not-false _ if2.false) c.ok_send-2.ensures
+    sends_two a.processes a.rule.first a.rule.second a.rule.count _ c.if-rule-eq0.false c.if-rule-eq1.false (sym c.ok_send.ensures ∙ not-false _ c.if-not-ok_send.false-raw) c.ok_send-2.ensures
