@@ -8,7 +8,8 @@ mod walk;
 
 ghost use Rattle.std.specs.Prelude.{◌≡◌, length};
 ghost use Rattle.definition.specs.declared.Call.TheVariants.{Advance};
-ghost use Rattle.memory.specs.Promise.{Ready, Commits};
+ghost use Rattle.memory.specs.Memory.{held};
+ghost use Rattle.memory.specs.Promise.{Ready, Committed};
 ghost use Rattle.advance.specs.Done.{whole_of};
 
 use definition::lent::{Own, Queue, Row, Rules, WHOLE};
@@ -33,8 +34,8 @@ pub fn advance(
     ceiling: Time,
     buffer: &mut [u8],
 ) -> Answer
-    requires { Ready model inputs outputs transit own }
-    ensures { Commits model inputs outputs transit own buffer (Advance ceiling (length buffer.old)) result }
+    requires { Ready (held model.now inputs.old outputs.old transit.now own.old) }
+    ensures { Committed (held model.now inputs.old outputs.old transit.now own.old) (Advance ceiling (length buffer.old)) result (held model.now inputs.new outputs.new transit.now own.new) buffer.old buffer.new }
 {
     let processes = memory::size(table::processes(model));
     let numbers = own[WHOLE][0];

@@ -5,7 +5,7 @@
 
 ghost use Rattle.std.specs.Prelude.{◌≡◌, true, ◌≤◌, length};
 ghost use Rattle.definition.specs.BadState.{ok_process};
-ghost use Rattle.memory.specs.Memory.{process_of, shaped_at, all_of, entered, lawful as Lawful};
+ghost use Rattle.memory.specs.Memory.{process_of, shaped_at, all_of, held, lawful as Lawful};
 ghost use Rattle.badstate.specs.Parts.{alone, lawful_process, lawful_at, ok_numbers, lawful_whole};
 
 use definition::lent::{OWN, OWNERS, Own, Queue, Row, Rules, WHOLE};
@@ -153,7 +153,7 @@ pub fn lawful(
     transit: &[Row],
     own: &[Own],
 ) -> bool
-    ensures { result ≡ Lawful (entered model inputs outputs transit own) }
+    ensures { result ≡ Lawful (held model.now inputs.now outputs.now transit.now own.now) }
 {
     if !rulecheck::lawful(model) {
         return false;

@@ -3,7 +3,8 @@
 #![tactic(auto)]
 
 ghost use Rattle.std.specs.Prelude.{◌≡◌, length};
-ghost use Rattle.memory.specs.Promise.{Ready, Commits};
+ghost use Rattle.memory.specs.Memory.{held};
+ghost use Rattle.memory.specs.Promise.{Ready, Committed};
 ghost use Rattle.calls.specs.Lent.{room_of};
 
 use definition::lent::{Own, Queue, Row, Rules};
@@ -18,9 +19,9 @@ pub fn make(
     call: Call,
     buffer: &mut [u8],
 ) -> Answer
-    requires ready { Ready model inputs outputs transit own }
+    requires ready { Ready (held model.now inputs.old outputs.old transit.old own.old) }
     requires buffer_value { room_of call (length buffer.old) ≡ length buffer.old }
-    ensures { Commits model inputs outputs transit own buffer call result }
+    ensures { Committed (held model.now inputs.old outputs.old transit.old own.old) call result (held model.now inputs.new outputs.new transit.new own.new) buffer.old buffer.new }
 {
     match call {
         Call::Inject {

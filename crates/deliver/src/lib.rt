@@ -8,7 +8,8 @@ ghost use Rattle.definition.specs.declared.Call.TheVariants.{Deliver};
 ghost use Rattle.definition.specs.State.{before};
 ghost use Rattle.history.specs.Rows.{InOrder, saved_at};
 ghost use Rattle.queue.specs.Rows.{mail_of};
-ghost use Rattle.memory.specs.Promise.{Ready, Keeps};
+ghost use Rattle.memory.specs.Memory.{held};
+ghost use Rattle.memory.specs.Promise.{Ready, Kept};
 ghost use Rattle.deliver.specs.Plan.{Ordered, RolledBack, Sound, Planned, Going, Carried};
 
 use definition::lent::{Own, Queue, Row, Rules, WHOLE};
@@ -134,8 +135,8 @@ pub fn deliver(
     own: &mut [Own],
     place: u32,
 ) -> Answer
-    requires { Ready model inputs outputs transit own }
-    ensures { Keeps model inputs outputs transit own (Deliver place) result }
+    requires { Ready (held model.now inputs.old outputs.now transit.old own.old) }
+    ensures { Kept (held model.now inputs.old outputs.now transit.old own.old) (Deliver place) result (held model.now inputs.new outputs.now transit.new own.new) }
 {
     let at = place as usize;
     let whole = own[WHOLE][0];

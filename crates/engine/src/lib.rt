@@ -4,7 +4,8 @@
 #![tactic(auto)]
 
 ghost use Rattle.definition.specs.declared.Call.TheVariants.{Inject, Deliver, Execute, Advance};
-ghost use Rattle.memory.specs.Promise.{Keeps, Commits, Begins};
+ghost use Rattle.memory.specs.Memory.{held};
+ghost use Rattle.memory.specs.Promise.{Kept, Committed, Begun};
 ghost use Rattle.std.specs.Prelude.{length};
 
 use definition::lent::{Own, Queue, Row, Rules};
@@ -18,7 +19,7 @@ pub fn start(
     transit: &[Row],
     own: &mut [Own],
 ) -> Answer
-    ensures { Begins model inputs outputs transit own result }
+    ensures { Begun (held model.now inputs.now outputs.now transit.now own.old) result (held model.now inputs.now outputs.now transit.now own.new) }
 {
     start::start(model, inputs, outputs, transit, own)
 }
@@ -35,7 +36,7 @@ pub fn inject(
     kind: u32,
     value: u32,
 ) -> Answer
-    ensures { Keeps model inputs outputs transit own (Inject number receiver time kind value) result }
+    ensures { Kept (held model.now inputs.now outputs.now transit.old own.old) (Inject number receiver time kind value) result (held model.now inputs.now outputs.now transit.new own.new) }
 {
     if badstate::lawful(model, inputs, outputs, transit, own) {
         return inject::inject(
@@ -53,7 +54,7 @@ pub fn deliver(
     own: &mut [Own],
     place: u32,
 ) -> Answer
-    ensures { Keeps model inputs outputs transit own (Deliver place) result }
+    ensures { Kept (held model.now inputs.old outputs.now transit.old own.old) (Deliver place) result (held model.now inputs.new outputs.now transit.new own.new) }
 {
     if badstate::lawful(model, inputs, outputs, transit, own) {
         return deliver::deliver(model, inputs, outputs, transit, own, place);
@@ -69,7 +70,7 @@ pub fn execute(
     own: &mut [Own],
     process: u32,
 ) -> Answer
-    ensures { Keeps model inputs outputs transit own (Execute process) result }
+    ensures { Kept (held model.now inputs.now outputs.old transit.old own.old) (Execute process) result (held model.now inputs.now outputs.new transit.new own.new) }
 {
     if badstate::lawful(model, inputs, outputs, transit, own) {
         return execute::execute(model, inputs, outputs, transit, own, process);
@@ -86,7 +87,7 @@ pub fn advance(
     ceiling: Time,
     buffer: &mut [u8],
 ) -> Answer
-    ensures { Commits model inputs outputs transit own buffer (Advance ceiling (length buffer.old)) result }
+    ensures { Committed (held model.now inputs.old outputs.old transit.now own.old) (Advance ceiling (length buffer.old)) result (held model.now inputs.new outputs.new transit.now own.new) buffer.old buffer.new }
 {
     if badstate::lawful(model, inputs, outputs, transit, own) {
         return advance::advance(model, inputs, outputs, transit, own, ceiling, buffer);

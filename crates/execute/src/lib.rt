@@ -5,7 +5,8 @@
 ghost use Rattle.std.specs.Prelude.{◌≡◌, length};
 ghost use Rattle.definition.specs.declared.Answer.TheVariants.{Executed};
 ghost use Rattle.definition.specs.declared.Call.TheVariants.{Execute};
-ghost use Rattle.memory.specs.Promise.{Ready, Keeps};
+ghost use Rattle.memory.specs.Memory.{held};
+ghost use Rattle.memory.specs.Promise.{Ready, Kept};
 ghost use Rattle.execute.specs.Plan.{Sound, Judged, Going, Carried};
 
 use definition::lent::{Own, Queue, Row, RuleRow, Rules, WHOLE};
@@ -124,8 +125,8 @@ pub fn execute(
     own: &mut [Own],
     process: u32,
 ) -> Answer
-    requires { Ready model inputs outputs transit own }
-    ensures { Keeps model inputs outputs transit own (Execute process) result }
+    requires { Ready (held model.now inputs.now outputs.old transit.old own.old) }
+    ensures { Kept (held model.now inputs.now outputs.old transit.old own.old) (Execute process) result (held model.now inputs.now outputs.new transit.new own.new) }
 {
     if table::processes(model) <= process {
         return Answer::Refused(BAD_ARGUMENT);

@@ -3,7 +3,8 @@
 
 ghost use Rattle.std.specs.Prelude.{◌≡◌, ◌≤◌, get_or};
 ghost use Rattle.definition.specs.declared.Call.TheVariants.{Inject};
-ghost use Rattle.memory.specs.Promise.{Ready, Keeps};
+ghost use Rattle.memory.specs.Memory.{held};
+ghost use Rattle.memory.specs.Promise.{Ready, Kept};
 ghost use Rattle.inject.specs.Request.{refusal, with_request};
 
 use definition::lent::{Own, Queue, Row, Rules, WHOLE};
@@ -76,8 +77,8 @@ pub fn inject(
     kind: u32,
     value: u32,
 ) -> Answer
-    requires { Ready model inputs outputs transit own }
-    ensures { Keeps model inputs outputs transit own (Inject number receiver time kind value) result }
+    requires { Ready (held model.now inputs.now outputs.now transit.old own.old) }
+    ensures { Kept (held model.now inputs.now outputs.now transit.old own.old) (Inject number receiver time kind value) result (held model.now inputs.now outputs.now transit.new own.new) }
 {
     let whole = own[WHOLE][0];
     let refused = judge(whole, table::processes(model), number, receiver, time, kind);

@@ -14,7 +14,7 @@ use Rattle.definition.specs.ModelBytes.{Parsed, Got, Fault}
 use Rattle.definition.specs.Record.{onto}
 use Rattle.definition.specs.Rehearsal.{rehearsal}
 use Rattle.rule.specs.Rows.{model_of}
-use Rattle.memory.specs.Memory.{Memory, state_of, Table, Rows, Lent, entered, left}
+use Rattle.memory.specs.Memory.{Memory, state_of, Table, Rows}
 use Rattle.memory.specs.Promise.{is_refusal, due, Kept, one_answer, due_start, Begun, one_start as one-begun}
 use Rattle.model.specs.Stored.{model_for, answered, Promise}
 use Rattle.run.specs.declared.Ran.{Ran}
@@ -49,23 +49,6 @@ one_start m w v r s h k = (h.number ∙ sym k.number, (one-begun m _ _ w v h.beg
 pub one_call : (m : Memory) (c : Call) (w v : Memory) (r s : ℕ) → Told m c w r → Told m c v s → (r ≡ s) × (state_of w ≡ state_of v)
 one_call m c w v r s h k = (h.number ∙ sym k.number, (one_answer m c _ _ w v h.kept k.kept).1)
 
--- the same of references, as a function's clauses name them
-abbrev pub TellsStart : Lent Table → Lent Table → Lent Table → Lent Rows → Lent Table → ℕ → Type 0
-TellsStart model inputs outputs transit own r = StartTold (entered model inputs outputs transit own) (left model inputs outputs transit own) r
-
-abbrev pub Tells : Lent Table → Lent Table → Lent Table → Lent Rows → Lent Table → Call → ℕ → Type 0
-Tells model inputs outputs transit own c r = Told (entered model inputs outputs transit own) c (left model inputs outputs transit own) r
-
--- the three words hold the values of the answer that is due
-abbrev pub Gives : Lent Table → Lent Table → Lent Table → Lent Rows → Lent Table → Call → Lent (List ℕ) → Type 0
-Gives model inputs outputs transit own c values =
-    values.exit.now ≡ words_after (due (entered model inputs outputs transit own) c).answer values.entry.now
-
--- the bytes that are due stand at the buffer's start, and the bytes after them keep their values
-abbrev pub Writes : Lent Table → Lent Table → Lent Table → Lent Rows → Lent Table → Call → Lent (List ℕ) → Type 0
-Writes model inputs outputs transit own c buffer =
-    buffer.exit.now ≡ onto (due (entered model inputs outputs transit own) c).bytes buffer.entry.now
-
 -- ---- a run of many calls
 
 -- the answer that is due: the start's refusal, or how many calls were made, the place of the next, and the length of their record
@@ -95,11 +78,6 @@ pub one_run : (bs : List ℕ) (m w v : Memory) (answers x y : Rows) (committed d
 one_run bs m w v answers x y committed d e r s h k =
     let one = one-rehearsed bs m _ _ w v answers x y committed d e h.runs k.runs in
     (h.number ∙ sym k.number, one.1, one.2, one.3)
-
-abbrev pub TellsRun : Lent (List ℕ) → Lent Table → Lent Table → Lent Table → Lent Rows → Lent Table → Lent Rows → Lent (List ℕ) → ℕ → Type 0
-TellsRun bytes model inputs outputs transit own answers committed r =
-    RunTold bytes.entry.now (entered model inputs outputs transit own) (left model inputs outputs transit own)
-    answers.entry.now answers.exit.now committed.entry.now committed.exit.now r
 
 -- ---- what is read from bytes
 

@@ -5,8 +5,6 @@
 --   own[8][0]    rows in transit, horizon, next request number, last recorded time
 -- Rows after a count and words that are not named say nothing.
 use Rattle.std.specs.Prelude.{Bool, true, false, not, ◌&&◌, List, [], ◌∷◌, ℕ, zero, suc, length, get_or, leb, eqb}
-use Rattle.std.specs.Borrow.{Bor}
-use denote.Triple.Both.{Both}
 use Rattle.definition.specs.State.{Process, State}
 use Rattle.definition.specs.BadState.{bad}
 use Rattle.queue.specs.Rows.{entries, messages, mails}
@@ -106,17 +104,6 @@ Table = List (List (List ℕ))
 abbrev pub Rows : Type 0
 Rows = List (List ℕ)
 
--- what the five references hold
-abbrev pub held : Bor Table → Bor Table → Bor Table → Bor Rows → Bor Table → Memory
-held model inputs outputs transit own =
-    record { model = model.now; inputs = inputs.now; outputs = outputs.now; transit = transit.now; own = own.now }
-
--- a reference as a promise sees it: at entry and at exit
-abbrev pub Lent : Type 0 → Type 0
-Lent X = Both (Bor X) (Bor X)
-
-abbrev pub entered : Lent Table → Lent Table → Lent Table → Lent Rows → Lent Table → Memory
-entered model inputs outputs transit own = held model.entry inputs.entry outputs.entry transit.entry own.entry
-
-abbrev pub left : Lent Table → Lent Table → Lent Table → Lent Rows → Lent Table → Memory
-left model inputs outputs transit own = held model.exit inputs.exit outputs.exit transit.exit own.exit
+-- the five lists as they are held at entry, or at exit
+abbrev pub held : Table → Table → Table → Rows → Table → Memory
+held model inputs outputs transit own = record { model = model; inputs = inputs; outputs = outputs; transit = transit; own = own }

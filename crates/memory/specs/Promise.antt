@@ -1,7 +1,6 @@
 -- What every call promises, in one record, on every memory; and what a start promises, in another.
 use Rattle.std.specs.Prelude.{◌≡◌, Bool, true, false, not, ◌&&◌, List, [], ℕ, eqb, length, get_or}
 use Rattle.std.proofs.Common.{sym, ◌∙◌}
-use Rattle.std.specs.Borrow.{Bor}
 use Rattle.definition.specs.declared.Answer.{Answer}
 use Rattle.definition.specs.declared.Answer.TheVariants.{Refused, Started, Injected, Delivered, Executed, Advanced}
 use Rattle.definition.specs.declared.Call.{Call}
@@ -9,7 +8,7 @@ use Rattle.definition.specs.Record.{onto}
 use Rattle.definition.specs.Calls.{Result, check, start}
 use Rattle.definition.specs.BadState.{call}
 use Rattle.rule.specs.Rows.{processes_of, model_of, shaped_model}
-use Rattle.memory.specs.Memory.{Memory, all_of, state_of, shaped, lawful, Table, Rows, Lent, held, entered, left}
+use Rattle.memory.specs.Memory.{Memory, all_of, state_of, shaped, lawful, Table, Rows}
 
 abbrev pub is_refusal : Answer → Bool
 is_refusal (Refused n) = true
@@ -37,16 +36,9 @@ pub record Committed (m : Memory) (c : Call) (a : Answer) (w : Memory) (b d : Li
   pub kept : Kept m c a w
   pub buffer : d ≡ onto (due m c).bytes b
 
--- the same of references, as a function's clauses name them: what it asks of the memory that it is lent, and what it promises
-abbrev pub Ready : Bor Table → Bor Table → Bor Table → Bor Rows → Bor Table → Type 0
-Ready model inputs outputs transit own = lawful (held model inputs outputs transit own) ≡ true
-
-abbrev pub Keeps : Lent Table → Lent Table → Lent Table → Lent Rows → Lent Table → Call → Answer → Type 0
-Keeps model inputs outputs transit own c a = Kept (entered model inputs outputs transit own) c a (left model inputs outputs transit own)
-
-abbrev pub Commits : Lent Table → Lent Table → Lent Table → Lent Rows → Lent Table → Lent (List ℕ) → Call → Answer → Type 0
-Commits model inputs outputs transit own buffer c a =
-    Committed (entered model inputs outputs transit own) c a (left model inputs outputs transit own) buffer.entry.now buffer.exit.now
+-- what a call asks of the memory that it is lent
+abbrev pub Ready : Memory → Type 0
+Ready m = lawful m ≡ true
 
 -- the promise admits one answer and one state
 pub one_answer : (m : Memory) (c : Call) (a b : Answer) (w v : Memory) → Kept m c a w → Kept m c b v → (a ≡ b) × (state_of w ≡ state_of v)
@@ -84,9 +76,6 @@ pub record Begun (m : Memory) (a : Answer) (w : Memory) : Type 0 where
   pub state : state_of w ≡ (due_start m).after
   pub same : is_refusal a ≡ true → w ≡ m
   pub lawful_first : is_refusal a ≡ false → lawful w ≡ true
-
-abbrev pub Begins : Lent Table → Lent Table → Lent Table → Lent Rows → Lent Table → Answer → Type 0
-Begins model inputs outputs transit own a = Begun (entered model inputs outputs transit own) a (left model inputs outputs transit own)
 
 pub one_start : (m : Memory) (a b : Answer) (w v : Memory) → Begun m a w → Begun m b v → (a ≡ b) × (state_of w ≡ state_of v)
 one_start m a b w v h k = (h.answer ∙ sym k.answer, h.state ∙ sym k.state)

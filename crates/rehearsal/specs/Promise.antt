@@ -10,7 +10,7 @@ use Rattle.runfile.specs.declared.HeadRead.{HeadRead}
 use Rattle.runfile.specs.declared.HeadRead.TheVariants.{Model as Stands, Refused as NoModel}
 use Rattle.runfile.specs.Reading.{head_of}
 use Rattle.model.specs.Stored.{has_room}
-use Rattle.memory.specs.Memory.{Memory, state_of, lawful, Table, Rows, Lent, entered, left}
+use Rattle.memory.specs.Memory.{Memory, state_of, lawful}
 use Rattle.memory.specs.Promise.{sized_for}
 use Rattle.lines.specs.Promise.{longest}
 use Rattle.rehearsal.specs.declared.Progress.{Progress}
@@ -76,16 +76,6 @@ pub record Begins (m : Memory) (bs : List ℕ) (a : Progress) (w : Memory) (befo
   pub prints : Prints m (first_due m (length before) bs) a w before after
   pub fault_same : (n place : ℕ) → model_by bs (head_of bs) ≡ Fault n place → w ≡ m
   pub lawful_first : is_refusal a ≡ false → (M : Model) (next : ℕ) → model_by bs (head_of bs) ≡ Got M next → lawful w ≡ true
-
--- the same of references, as the functions' clauses name them
-abbrev pub BeginsAt : Lent (List ℕ) → Lent Table → Lent Table → Lent Table → Lent Rows → Lent Table → Lent (List ℕ) → Progress → Type 0
-BeginsAt bytes model inputs outputs transit own text a =
-    Begins (entered model inputs outputs transit own) bytes.entry.now a (left model inputs outputs transit own) text.entry.now text.exit.now
-
-abbrev pub StepsAt : Lent (List ℕ) → ℕ → Lent Table → Lent Table → Lent Table → Lent Rows → Lent Table → Lent (List ℕ) → Progress → Type 0
-StepsAt bytes at model inputs outputs transit own text a =
-    Prints (entered model inputs outputs transit own) (turn_due (entered model inputs outputs transit own) (length text.entry.now) bytes.entry.now at) a
-    (left model inputs outputs transit own) text.entry.now text.exit.now
 
 -- the promise admits one answer, one text and one state
 pub one_answer : (m : Memory) (d : Due) (a b : Progress) (w v : Memory) (before x y : List ℕ) → Prints m d a w before x → Prints m d b v before y

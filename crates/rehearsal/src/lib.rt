@@ -9,9 +9,10 @@ ghost use Rattle.runfile.specs.declared.HeadRead.TheVariants.{Model as Stands};
 ghost use Rattle.runfile.specs.Reading.{head_of};
 ghost use Rattle.text.specs.Part.{part_text};
 ghost use Rattle.model.specs.Stored.{has_room};
+ghost use Rattle.memory.specs.Memory.{held};
 ghost use Rattle.memory.specs.Promise.{sized_for};
 ghost use Rattle.lines.specs.Promise.{longest};
-ghost use Rattle.rehearsal.specs.Promise.{Says, BeginsAt, StepsAt};
+ghost use Rattle.rehearsal.specs.Promise.{Says, Begins, Prints, turn_due};
 
 use definition::lent::{Own, Queue, Row, Rules};
 use definition::numbers::INPUT_LENGTH;
@@ -73,7 +74,7 @@ fn start(
     requires bytes_value { head_of bytes.now ≡ Stands at size }
     requires own_value { (has_room model.old && sized_for 8 inputs.now outputs.now transit.now own.old) ≡ true }
     requires longest_in_bounds { longest ≤ length text.old }
-    ensures { BeginsAt bytes model inputs outputs transit own text result }
+    ensures { Begins (held model.old inputs.now outputs.now transit.now own.old) bytes.now result (held model.new inputs.now outputs.now transit.now own.new) text.old text.new }
 {
     let end = at + size;
     let read = model::read(&bytes[at..end], model);
@@ -102,7 +103,7 @@ pub fn begin(
     own: &mut [Own],
     text: &mut [u8],
 ) -> Progress
-    ensures { BeginsAt bytes model inputs outputs transit own text result }
+    ensures { Begins (held model.old inputs.now outputs.now transit.now own.old) bytes.now result (held model.new inputs.now outputs.now transit.now own.new) text.old text.new }
 {
     if !has_room(model, inputs, outputs, transit, own) {
         return Progress::Refused(BAD_STATE);
@@ -130,7 +131,7 @@ pub fn step(
     own: &mut [Own],
     text: &mut [u8],
 ) -> Progress
-    ensures { StepsAt bytes at model inputs outputs transit own text result }
+    ensures { Prints (held model.now inputs.old outputs.old transit.old own.old) (turn_due (held model.now inputs.old outputs.old transit.old own.old) (length text.old) bytes.now at) result (held model.now inputs.new outputs.new transit.new own.new) text.old text.new }
 {
     if !badstate::lawful(model, inputs, outputs, transit, own) {
         return Progress::Refused(BAD_STATE);

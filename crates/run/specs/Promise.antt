@@ -15,7 +15,7 @@ use Rattle.definition.specs.BadState.{call}
 use Rattle.definition.specs.Rehearsal.{Rehearsal, calls, rehearsal}
 use Rattle.demands.specs.Demands.{DemandTwo, DemandThree}
 use Rattle.rule.specs.Rows.{model_of}
-use Rattle.memory.specs.Memory.{Memory, state_of, lawful, Table, Rows, Lent, entered, left}
+use Rattle.memory.specs.Memory.{Memory, state_of, lawful, Rows}
 use Rattle.memory.specs.Promise.{is_refusal, due_start}
 use Rattle.run.specs.declared.Ran.{Ran}
 use Rattle.run.specs.declared.Ran.TheVariants.{Done, Refused}
@@ -101,20 +101,3 @@ abbrev pub Works : List ℕ → State → Ran → Memory → Rows → Rows → L
 Works bs s a w answers answers' committed committed' =
     let x : Made = made (length answers) (length committed) bs s 0 in
     Worked (calls (from s) x.calls) s x a w answers answers' committed committed'
-
--- ---- the same of references, as the functions' clauses name them
-
-abbrev pub TurnsAt : Lent Table → Lent Table → Lent Table → Lent Rows → Lent Table → Call → Lent Rows → ℕ → Lent (List ℕ) → ℕ → ℕ → Type 0
-TurnsAt model inputs outputs transit own c answers place committed recorded n =
-    Turned (entered model inputs outputs transit own) c n (left model inputs outputs transit own)
-    answers.entry.now answers.exit.now place committed.entry.now committed.exit.now recorded
-
-abbrev pub WorksAt : Lent (List ℕ) → Lent Table → Lent Table → Lent Table → Lent Rows → Lent Table → Lent Rows → Lent (List ℕ) → Ran → Type 0
-WorksAt bytes model inputs outputs transit own answers committed a =
-    Works bytes.entry.now (state_of (entered model inputs outputs transit own)) a (left model inputs outputs transit own)
-    answers.entry.now answers.exit.now committed.entry.now committed.exit.now
-
-abbrev pub RunsAt : Lent (List ℕ) → Lent Table → Lent Table → Lent Table → Lent Rows → Lent Table → Lent Rows → Lent (List ℕ) → Ran → Type 0
-RunsAt bytes model inputs outputs transit own answers committed a =
-    Runs bytes.entry.now (entered model inputs outputs transit own) a (left model inputs outputs transit own)
-    answers.entry.now answers.exit.now committed.entry.now committed.exit.now

@@ -7,10 +7,11 @@ ghost use Rattle.std.specs.Prelude.{◌≡◌, ◌+◌, ◌≤◌, ◌<◌, leng
 ghost use Rattle.definition.specs.Program.{buffer_length};
 ghost use Rattle.calls.specs.Lent.{room_of};
 ghost use Rattle.lawful.specs.Written.{written_of};
+ghost use Rattle.memory.specs.Memory.{held, state_of};
 ghost use Rattle.memory.specs.Promise.{Ready, is_refusal};
 ghost use Rattle.run.specs.Made.{turn_of};
 ghost use Rattle.run.specs.Rows.{row_of};
-ghost use Rattle.run.specs.Promise.{TurnsAt, WorksAt, RunsAt};
+ghost use Rattle.run.specs.Promise.{Turned, Works, Runs};
 
 use definition::lent::{Own, Queue, Row, Rules};
 use definition::numbers::BUFFER_LENGTH;
@@ -112,10 +113,10 @@ fn make(
     committed: &mut [u8],
     recorded: usize,
 ) -> usize
-    requires ready { Ready model inputs outputs transit own }
+    requires ready { Ready (held model.now inputs.old outputs.old transit.old own.old) }
     requires buffer_length_value { room_of call buffer_length ≡ buffer_length }
     requires place_in_bounds { (place < length answers.old) × (recorded + buffer_length ≤ length committed.old) }
-    ensures { TurnsAt model inputs outputs transit own call answers place committed recorded result }
+    ensures { Turned (held model.now inputs.old outputs.old transit.old own.old) call result (held model.now inputs.new outputs.new transit.new own.new) answers.old answers.new place committed.old committed.new recorded }
 {
     let end = recorded + BUFFER_LENGTH;
     let answer = calls::make(
@@ -142,8 +143,8 @@ fn work(
     answers: &mut [[u32; 4]],
     committed: &mut [u8],
 ) -> Ran
-    requires { Ready model inputs outputs transit own }
-    ensures { WorksAt bytes model inputs outputs transit own answers committed result }
+    requires { Ready (held model.now inputs.old outputs.old transit.old own.old) }
+    ensures { Works bytes.now (state_of (held model.now inputs.old outputs.old transit.old own.old)) result (held model.now inputs.new outputs.new transit.new own.new) answers.old answers.new committed.old committed.new }
 {
     let mut calls: usize = 0;
     let mut at: usize = 0;
@@ -201,7 +202,7 @@ pub fn run(
     answers: &mut [[u32; 4]],
     committed: &mut [u8],
 ) -> Ran
-    ensures { RunsAt bytes model inputs outputs transit own answers committed result }
+    ensures { Runs bytes.now (held model.now inputs.old outputs.old transit.old own.old) result (held model.now inputs.new outputs.new transit.new own.new) answers.old answers.new committed.old committed.new }
 {
     if is_refusal(start::start(model, inputs, outputs, transit, own)) {
         return Ran::Refused(BAD_STATE);

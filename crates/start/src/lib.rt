@@ -3,8 +3,8 @@
 #![tactic(auto)]
 
 ghost use Rattle.std.specs.Prelude.{◌≡◌, [], ◌≤◌, length, get_or};
-ghost use Rattle.memory.specs.Memory.{all_of};
-ghost use Rattle.memory.specs.Promise.{sized_rows, sized_for, Begins};
+ghost use Rattle.memory.specs.Memory.{all_of, held};
+ghost use Rattle.memory.specs.Promise.{sized_rows, sized_for, Begun};
 ghost use Rattle.start.specs.First.{first_row, Placed};
 
 use definition::lent::{OWN, OWNERS, Own, Queue, Row, Rules, WHOLE};
@@ -96,7 +96,7 @@ pub fn start(
     transit: &[Row],
     own: &mut [Own],
 ) -> Answer
-    ensures { Begins model inputs outputs transit own result }
+    ensures { Begun (held model.now inputs.now outputs.now transit.now own.old) result (held model.now inputs.now outputs.now transit.now own.new) }
 {
     if !rulecheck::lawful(model) {
         return Answer::Refused(BAD_STATE);
