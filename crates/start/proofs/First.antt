@@ -79,11 +79,11 @@ module _ (m : Memory) (ok : lawful_model m.model ≡ true) (z : Sizes m) (own : 
 
   -- ---- the rows of it
 
-  own_at : (p : ℕ) → p < n → own_at after p ≡ first_rows m.model m.own p
-  own_at p h = get_or-set_other own 8 p _ [] (λ e. omega (arith, most)) ∙ P.placed p h
+  own_at_lem : (p : ℕ) → p < n → own_at after p ≡ first_rows m.model m.own p
+  own_at_lem p h = get_or-set_other own 8 p _ [] (λ e. omega (arith, most)) ∙ P.placed p h
 
   first_at : (p : ℕ) → p < n → get_or (own_at after p) 0 [] ≡ first_row (setup_of (get_or m.model p [])).first
-  first_at p h = ap (λ (w : List (List ℕ)). get_or w 0 []) (own_at p h) ∙ get_or-set_same (get_or m.own p []) 0 _ [] (omega (arith, (z.at p h).own))
+  first_at p h = ap (λ (w : List (List ℕ)). get_or w 0 []) (own_at_lem p h) ∙ get_or-set_same (get_or m.own p []) 0 _ [] (omega (arith, (z.at p h).own))
 
   whole_is : whole after ≡ set (whole m) 0 no_numbers
   whole_is = get_or-set_same own 8 _ [] (omega (arith, P.long, z.own)) ∙ ap (λ (w : List (List ℕ)). set w 0 no_numbers) (P.rest 8 most)
@@ -137,7 +137,7 @@ module _ (m : Memory) (ok : lawful_model m.model ≡ true) (z : Sizes m) (own : 
             record {
               inputs = (z.at p h).inputs;
               outputs = (z.at p h).outputs;
-              own = ap length (own_at p h) ∙ length-set (get_or m.own p []) 0 _ ∙ (z.at p h).own;
+              own = ap length (own_at_lem p h) ∙ length-set (get_or m.own p []) 0 _ ∙ (z.at p h).own;
               entries = rw (first_at p h) (omega arith);
               sends = rw (first_at p h) (omega arith);
               events = rw (first_at p h) (omega arith);

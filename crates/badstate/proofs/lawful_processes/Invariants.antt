@@ -1,0 +1,16 @@
+-- What the processes from p on say is what all said. The measure is what is left of them.
+use borrow.Author.Rules.{rules}
+use native.Mathlib.Omega.{arith}
+use mathlib.Core.Path.{◌≡◌, sym, ◌∙◌}
+use Prim.Native.Nat.{◌≤◌, ◌-◌}
+use Rattle.laws.specs.Walks.{yes_said, no_said}
+use Rattle.memory.specs.Memory.{all_of}
+use Rattle.badstate.specs.Parts.{lawful_at}
+use Rattle.badstate.proofs.Laws.{all_of_end, all_of_wrong, all_of_right}
+use Rattle.badstate.proofs.lawful_processes.Given as goal
+
+abbrev pub invariant-loop-p : goal.invariant-loop-p
+invariant-loop-p l = (l.p ≤ l.processes) × (all_of 0 l.processes (lawful_at l.processes l.horizon l.own l.inputs l.outputs) ≡ all_of l.p (l.processes - l.p) (lawful_at l.processes l.horizon l.own l.inputs l.outputs))
+
+abbrev pub decreases-loop-p : goal.decreases-loop-p
+decreases-loop-p l = l.processes - l.p
