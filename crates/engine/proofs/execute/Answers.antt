@@ -1,0 +1,12 @@
+-- `engine::execute` meets its contract: a memory that is not lawful is refused by 16 and left as it was, and on a lawful one the call keeps the promise.
+use mathlib.Core.Path.{◌≡◌, sym, ◌∙◌}
+use Rattle.definition.specs.declared.Call.TheVariants.{Execute}
+use Rattle.memory.specs.Keeping.{kept_unlawful}
+use borrow.Author.Rules.{rules}
+use Rattle.engine.proofs.execute.Goals as goal
+
+pub execute-requires : goal.execute-requires
+execute-requires c = sym c.lawful.ensures ∙ c.if-lawful.true
+
+pub returns : goal.returns
+returns c = let a = c.args in kept_unlawful _ (Execute a.process) (sym c.lawful.ensures ∙ c.if-lawful.false)
