@@ -4,7 +4,7 @@
 --   own[p][0]    of process p: input rows, output rows, events, base mode, base tally; own[p][1 ..]: its events (Rows.antt of crate history)
 --   own[8][0]    rows in transit, horizon, next request number, last recorded time
 -- Rows after a count and words that are not named say nothing.
-use Rattle.std.specs.Prelude.{Bool, true, false, not, ◌&&◌, List, [], ◌∷◌, ℕ, zero, suc, length, get_or, leb, eqb}
+use Rattle.std.specs.Prelude.{Bool, true, not, ◌&&◌, List, [], ◌∷◌, ℕ, zero, suc, length, get_or, leb, eqb}
 use Rattle.definition.specs.State.{Process, State}
 use Rattle.definition.specs.BadState.{bad}
 use Rattle.queue.specs.Rows.{entries, messages, mails}

@@ -1,11 +1,9 @@
 -- What the functions over rows promise and ask for, in the words of `definition`: each speaks of the lists that the rows say.
 use Prim.Native.Nat.{ℕ, suc, ◌+◌, ◌-◌, ◌≤◌, ◌<◌, Ordering}
 use Rattle.std.specs.Prelude.{◌≡◌, Bool, true, false, cond, not, ◌&&◌, List, [], ◌∷◌, ◌++◌, map, leb, ltb, eqb, pos, length, get_or, take, drop}
-use Rattle.definition.specs.Lists.{keep, all, compare_keys}
+use Rattle.definition.specs.Lists.{keep, compare_keys}
 use Rattle.definition.specs.Message.{Message, message_key}
 use Rattle.definition.specs.State.{Entry, entry, arrived, is_zero, positive, reads_at}
-use Rattle.definition.specs.BadState.{ok_net}
-use Rattle.definition.specs.State.{entry_key}
 use Rattle.definition.specs.BadState.{ok_nets}
 use Rattle.queue.specs.Rows.{message_of, entry_of}
 

@@ -1,5 +1,5 @@
 -- How many bytes a line takes at most, for whoever lends the buffer: the longest, an event's, has 61.
-use Rattle.std.specs.Prelude.{List, ◌++◌, ℕ, ◌≤◌, length}
+use Rattle.std.specs.Prelude.{◌++◌, ℕ, ◌≤◌, length}
 use Rattle.std.proofs.Common.{arith, length-append}
 use Rattle.definition.specs.declared.Answer.{Answer}
 use Rattle.definition.specs.declared.Answer.TheVariants.{Refused, Started, Injected, Delivered, Executed, Advanced}

@@ -1,5 +1,4 @@
 -- The next mode of the rule, and the tally that `tally_after` gives.
-use Rattle.std.proofs.Common.{rules}
 use Rattle.effect.proofs.after.Goals as goal
 
 pub returns : goal.returns

@@ -1,5 +1,4 @@
 -- Case by case of what the send names as its value.
-use Rattle.std.proofs.Common.{rules}
 use Rattle.effect.proofs.sent_value.Goals as goal
 
 pub returns-in-Fixed : goal.returns-in-Fixed

@@ -1,5 +1,4 @@
 -- Case by case of the effect; a wrapped sum is the sum modulo 2 to the 32nd.
-use Rattle.std.proofs.Common.{rules}
 use Rattle.effect.proofs.tally_after.Goals as goal
 
 pub returns-in-Add : goal.returns-in-Add

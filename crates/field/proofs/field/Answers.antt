@@ -1,6 +1,5 @@
 -- At each return the tests that led there say which case of the definition holds.
 use mathlib.Core.Path.{sym, ◌∙◌}
-use borrow.Author.Rules.{rules}
 use borrow.Author.Tests.{le-leb, lt-leb}
 use Rattle.definition.specs.ModelBytes.{field}
 use Rattle.field.proofs.field.Goals as goal

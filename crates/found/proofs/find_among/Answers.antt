@@ -1,9 +1,6 @@
-use mathlib.Core.Path.{◌≡◌, refl, sym, ap, ◌∙◌}
-use Prim.Native.Nat.{◌≤◌, ◌-◌}
-use lib.ListN.{length, drop}
+use mathlib.Core.Path.{refl, sym, ap, ◌∙◌}
 use borrow.Author.Rules.{rules}
 use Rattle.found.specs.declared.Found.TheVariants.{Rule as Match}
-use Rattle.found.specs.Search.{found_among}
 use Rattle.found.proofs.Search.{found_here, found_later, found_none}
 use Rattle.found.proofs.find_among.Goals as goal
 

@@ -1,11 +1,8 @@
 -- The loop's invariant: among the rows from `i` on is found what is found among all. The measure is what is left of the length.
-use mathlib.Core.Path.{◌≡◌, refl, sym, ap, ◌∙◌}
+use mathlib.Core.Path.{◌≡◌}
 use Prim.Native.Nat.{◌≤◌, ◌-◌}
 use lib.ListN.{length, drop}
-use borrow.Author.Rules.{rules}
-use Rattle.found.specs.declared.Found.TheVariants.{Rule as Match}
 use Rattle.found.specs.Search.{found_among}
-use Rattle.found.proofs.Search.{found_here, found_later, found_none}
 use Rattle.found.proofs.find_among.Given as goal
 
 abbrev pub invariant-loop-i : goal.invariant-loop-i

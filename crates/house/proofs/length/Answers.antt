@@ -1,8 +1,6 @@
-use mathlib.Core.Path.{◌≡◌, ap}
-use Prim.Native.Nat.{◌+◌, ◌≤◌}
+use mathlib.Core.Path.{ap}
 use native.Mathlib.Omega.{arith}
 use lib.ListN.{length}
-use Rattle.definition.specs.House.{largest, house}
 use Rattle.house.specs.Numbers.{house_most, house_one, house_more}
 use Rattle.house.proofs.length.Goals as goal
 

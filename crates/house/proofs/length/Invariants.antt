@@ -1,10 +1,8 @@
 -- `house::length` meets its contract. The loop's invariant: the bytes counted and those of what is left are the number's. The measure is what is left.
-use mathlib.Core.Path.{◌≡◌, ap}
+use mathlib.Core.Path.{◌≡◌}
 use Prim.Native.Nat.{◌+◌, ◌≤◌}
-use native.Mathlib.Omega.{arith}
 use lib.ListN.{length}
 use Rattle.definition.specs.House.{largest, house}
-use Rattle.house.specs.Numbers.{house_most, house_one, house_more}
 use Rattle.house.proofs.length.Given as goal
 
 abbrev pub invariant-loop-rest : goal.invariant-loop-rest

@@ -2,7 +2,7 @@ use Rattle.std.proofs.Common.{◌≡◌, refl, sym, ap, ◌∙◌, ◌⊎◌, �
 use mathlib.Core.Logic.{⊎_elim}
 use Rattle.definition.specs.House.{last_groups, read_groups, number_at}
 use Rattle.house.specs.Groups.{byte_next, byte_cut, byte_too_big, byte_overlong, byte_last, byte_more, byte_follows, byte_held}
-use Rattle.house.specs.Groups.{capacity, Room, room_first, room_next, room_sum, room_weight}
+use Rattle.house.specs.Groups.{Room, room_first, room_next, room_sum, room_weight}
 use Rattle.house.specs.Numbers.{holds}
 use Rattle.house.proofs.read.Goals as goal
 
@@ -70,10 +70,11 @@ overflow_mul-weight c =
     omega (arith, (next _ _ _ _ c.loop-next.invariant.0 c.if-byte-lt-GROUP.false (omega (arith, c.type_inv.bytes c.loop-next.next)) (last _ _ c.else-more-eq0.either)).1)
 
 pub loop-next-preserved : goal.loop-next-preserved
-loop-next-preserved c =
-    (room _ _ _ _ c.loop-next.invariant.0 c.if-byte-lt-GROUP.false (omega (arith, c.type_inv.bytes c.loop-next.next)) (last _ _ c.else-more-eq0.either),
-    turn _ _ _ _ _ _ c.loop-next.invariant.1 c.loop-next-test.true
-    ∙ byte_more _ _ _ _ _ _ (byte_follows _ _ c.if-byte-lt-GROUP.false (last _ _ c.else-more-eq0.either)) c.if-byte-lt-GROUP.false)
+loop-next-preserved c = (
+  room _ _ _ _ c.loop-next.invariant.0 c.if-byte-lt-GROUP.false (omega (arith, c.type_inv.bytes c.loop-next.next)) (last _ _ c.else-more-eq0.either),
+  turn _ _ _ _ _ _ c.loop-next.invariant.1 c.loop-next-test.true
+      ∙ byte_more _ _ _ _ _ _ (byte_follows _ _ c.if-byte-lt-GROUP.false (last _ _ c.else-more-eq0.either)) c.if-byte-lt-GROUP.false,
+)
 
 pub returns : goal.returns
 returns c = sym (c.loop-next.invariant.1 ∙ ap (read_groups _ _ _ _) (drop_of_length-le _ c.loop-next-test.false) ∙ byte_cut _ _ _ _)

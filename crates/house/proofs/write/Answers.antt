@@ -1,11 +1,8 @@
-use mathlib.Core.Path.{◌≡◌, refl, sym, ap, ◌∙◌}
-use Prim.Native.Nat.{◌+◌, ◌≤◌}
+use mathlib.Core.Path.{refl, sym, ap, ◌∙◌}
 use native.Mathlib.Numerals.{add-one}
 use native.Mathlib.Omega.{arith}
-use borrow.Author.Rules.{rules}
 use lib.ListN.{length, length-set}
 use lib.Seq.{sets}
-use Rattle.definition.specs.House.{largest, house}
 use Rattle.house.specs.Numbers.{house_least, house_one, house_more}
 use Rattle.house.specs.Promise.{short_writes, next_writes}
 use Rattle.house.proofs.write.Goals as goal

@@ -1,15 +1,10 @@
 -- `house::write` meets its contract. The loop's invariant: with the bytes of what is left at `next`, the buffer is as promised, and they end where
 -- the number's end. The measure is what is left.
-use mathlib.Core.Path.{◌≡◌, refl, sym, ap, ◌∙◌}
+use mathlib.Core.Path.{◌≡◌}
 use Prim.Native.Nat.{◌+◌, ◌≤◌}
-use native.Mathlib.Numerals.{add-one}
-use native.Mathlib.Omega.{arith}
-use borrow.Author.Rules.{rules}
-use lib.ListN.{length, length-set}
+use lib.ListN.{length}
 use lib.Seq.{sets}
 use Rattle.definition.specs.House.{largest, house}
-use Rattle.house.specs.Numbers.{house_least, house_one, house_more}
-use Rattle.house.specs.Promise.{short_writes, next_writes}
 use Rattle.house.proofs.write.Given as goal
 
 abbrev pub invariant-loop-rest : goal.invariant-loop-rest

@@ -1,5 +1,4 @@
 -- Each word goes to its field; effect and sends are what their functions ensure.
-use borrow.Author.Rules.{rules}
 use Rattle.rule.proofs.decode.Goals as goal
 
 pub returns : goal.returns

@@ -1,5 +1,4 @@
 -- Each key of the match is a case of `effect_of`; all that the keys leave is its last.
-use borrow.Author.Rules.{rules}
 use Rattle.rule.proofs.Words.{last_effect}
 use Rattle.rule.proofs.effect_of.Goals as goal
 

@@ -1,5 +1,4 @@
 -- The words stand as `encoded` has them; tags and numbers are what their functions ensure.
-use borrow.Author.Rules.{rules}
 use Rattle.rule.proofs.encode.Goals as goal
 
 pub returns : goal.returns

@@ -1,5 +1,4 @@
 -- Five words in a row, the value by its tag.
-use borrow.Author.Rules.{rules}
 use Rattle.rule.proofs.send_at.Goals as goal
 
 pub returns : goal.returns

@@ -1,5 +1,4 @@
 -- Each key of the match is a case of `value_of`; all that the keys leave is its last.
-use borrow.Author.Rules.{rules}
 use Rattle.rule.proofs.Words.{last_value}
 use Rattle.rule.proofs.value_of.Goals as goal
 

@@ -5,7 +5,6 @@ use Rattle.definition.specs.ModelBytes.{effect_at}
 use Rattle.field.specs.Reading.{field_in, read, leaves}
 use Rattle.field.specs.Gives.{in_range}
 use Rattle.rulebytes.proofs.Steps.{numbered}
-use borrow.Author.Rules.{rules}
 use Rattle.rulebytes.proofs.effect_at.Goals as goal
 
 pub returns-in_default : goal.returns-in_default

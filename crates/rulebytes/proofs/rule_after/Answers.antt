@@ -3,7 +3,6 @@ use mathlib.Core.Path.{refl}
 use Rattle.field.specs.Reading.{field_in, read, leaves}
 use Rattle.field.specs.Gives.{in_range}
 use Rattle.rulebytes.specs.Reading.{effect_in, rule_after}
-use borrow.Author.Rules.{rules}
 use Rattle.rulebytes.proofs.rule_after.Goals as goal
 
 pub returns-in_default : goal.returns-in_default

@@ -4,7 +4,6 @@ use borrow.Author.Tests.{le-leb, lt-leb, not-true, not-false}
 use Rattle.definition.specs.ModelBytes.{rule_at}
 use Rattle.field.specs.Reading.{field_in, read, leaves}
 use Rattle.rulebytes.specs.Reading.{rule_after}
-use borrow.Author.Rules.{rules}
 use Rattle.rulebytes.proofs.rule_at.Goals as goal
 
 pub returns-in_default : goal.returns-in_default

@@ -3,7 +3,6 @@ use mathlib.Core.Path.{refl}
 use Rattle.definition.specs.ModelBytes.{send_at}
 use Rattle.field.specs.Reading.{field_in, read, leaves}
 use Rattle.rulebytes.specs.Reading.{value_in}
-use borrow.Author.Rules.{rules}
 use Rattle.rulebytes.proofs.send_at.Goals as goal
 
 pub returns-in_default : goal.returns-in_default

@@ -4,7 +4,6 @@ use Rattle.definition.specs.ModelBytes.{sends_at}
 use Rattle.field.specs.Reading.{read, leaves}
 use Rattle.rulebytes.specs.Reading.{send_in}
 use Rattle.rulebytes.proofs.Steps.{sends_fault, two}
-use borrow.Author.Rules.{rules}
 use Rattle.rulebytes.proofs.sends_at.Goals as goal
 
 pub returns-then-rule-eq0 : goal.returns-then-rule-eq0

@@ -4,7 +4,6 @@ use Rattle.definition.specs.ModelBytes.{value_at}
 use Rattle.field.specs.Reading.{field_in, read, leaves}
 use Rattle.field.specs.Gives.{in_range}
 use Rattle.rulebytes.proofs.Steps.{none}
-use borrow.Author.Rules.{rules}
 use Rattle.rulebytes.proofs.value_at.Goals as goal
 
 pub returns-in_default : goal.returns-in_default

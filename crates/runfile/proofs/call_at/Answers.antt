@@ -1,6 +1,5 @@
 -- `runfile::call_at` meets its contract: the tag picks the case of the definition, and each answer says what was read at its place.
 use Rattle.runfile.proofs.Steps.{reads, leaves, tag_reads, tag_above, tag_leaves, one_fault, three}
-use borrow.Author.Rules.{rules}
 use Rattle.runfile.proofs.call_at.Goals as goal
 
 pub returns-in_default : goal.returns-in_default

@@ -2,7 +2,6 @@
 use mathlib.Core.Path.{sym}
 use native.Mathlib.Omega.{arith}
 use Rattle.runfile.proofs.Steps.{head_long, head_fault, head_end, head_cut, head_model}
-use borrow.Author.Rules.{rules}
 use Rattle.runfile.proofs.head.Goals as goal
 
 pub returns-then-bytes-gt-INPUT_LENGTH : goal.returns-then-bytes-gt-INPUT_LENGTH

@@ -1,6 +1,5 @@
 -- `runfile::inject_at` meets its contract: each answer says what was read at its place, in the order of the definition.
 use Rattle.runfile.proofs.Steps.{reads, leaves}
-use borrow.Author.Rules.{rules}
 use Rattle.runfile.proofs.inject_at.Goals as goal
 
 pub returns-in_default : goal.returns-in_default

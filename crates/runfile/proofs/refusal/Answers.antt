@@ -1,5 +1,4 @@
 -- `runfile::refusal` meets its contract, by the variant of the answer.
-use borrow.Author.Rules.{rules}
 use Rattle.runfile.proofs.refusal.Goals as goal
 
 pub returns-in-Read : goal.returns-in-Read

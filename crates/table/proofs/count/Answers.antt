@@ -1,5 +1,4 @@
 -- The word is what `heading_word` ensures.
-use borrow.Author.Rules.{rules}
 use Rattle.table.proofs.count.Goals as goal
 
 pub returns : goal.returns

@@ -1,5 +1,4 @@
 -- Both words are what `heading_word` ensures.
-use borrow.Author.Rules.{rules}
 use Rattle.table.proofs.first.Goals as goal
 
 pub returns : goal.returns

@@ -1,5 +1,4 @@
 -- With no row every word is 0.
-use borrow.Author.Rules.{rules}
 use Rattle.table.proofs.Rows.{heading_none}
 use Rattle.table.proofs.heading_word.Goals as goal
 

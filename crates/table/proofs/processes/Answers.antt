@@ -1,5 +1,4 @@
 -- With no process the count is 0.
-use borrow.Author.Rules.{rules}
 use Rattle.table.proofs.Rows.{processes_none}
 use Rattle.table.proofs.processes.Goals as goal
 

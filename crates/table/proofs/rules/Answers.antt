@@ -1,7 +1,6 @@
 -- The part from row 1 on is cut at the count, or by the end of the rows where the count is larger.
 use mathlib.Core.Path.{◌∙◌}
 use native.Mathlib.Omega.{arith}
-use borrow.Author.Rules.{rules}
 use Rattle.table.proofs.Rows.{rows_none, rows_all, rows_part}
 use Rattle.table.proofs.rules.Goals as goal
 

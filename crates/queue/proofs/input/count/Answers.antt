@@ -1,6 +1,5 @@
 -- By where the message stands: past the end, at an entry of its own, or before another.
 use native.Mathlib.Omega.{arith}
-use borrow.Author.Rules.{rules}
 use Rattle.queue.proofs.Arrivals.{new_last, new_between, again, room, in_range}
 use Rattle.queue.proofs.input.count.Goals as goal
 

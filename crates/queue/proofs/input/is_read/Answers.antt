@@ -2,7 +2,6 @@
 use mathlib.Core.Path.{sym}
 use lib.ListN.{get_or}
 use borrow.Author.Tests.{eq-eqb, ne_eqb}
-use borrow.Author.Rules.{rules}
 use Rattle.queue.proofs.Nets.{net_positive}
 use Rattle.queue.proofs.input.is_read.Goals as goal
 

@@ -1,5 +1,4 @@
 -- By where the message stands, as in `count`; an entry of its own is judged by the count that it would have.
-use borrow.Author.Rules.{rules}
 use Rattle.queue.proofs.Arrivals.{new_last, new_between, again, in_range}
 use Rattle.queue.proofs.Verdicts.{judged_new, judged_again}
 use Rattle.queue.proofs.input.judge.Goals as goal

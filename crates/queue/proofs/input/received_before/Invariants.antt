@@ -1,14 +1,7 @@
 -- The loop holds that the row before k, where there is one, is before t; times do not fall in a queue that is in order.
-use Prim.Native.Nat.{◌+◌, ◌-◌, ◌≤◌, ◌<◌}
-use mathlib.Core.Path.{◌≡◌, refl}
+use Prim.Native.Nat.{◌-◌, ◌≤◌, ◌<◌}
 use mathlib.Core.List.{[]}
-use native.Mathlib.Omega.{arith}
 use lib.ListN.{get_or}
-use borrow.Author.Rules.{rules}
-use Rattle.queue.specs.Rows.{entry_of}
-use Rattle.queue.specs.Queues.{received_at}
-use Rattle.queue.proofs.Orders.{received_rises}
-use Rattle.queue.proofs.Cuts.{parted}
 use Rattle.queue.proofs.input.received_before.Given as goal
 
 abbrev pub invariant-loop-k : goal.invariant-loop-k

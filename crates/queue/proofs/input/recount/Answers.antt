@@ -3,7 +3,6 @@ use Prim.Native.Nat.{ℕ, ◌-◌}
 use mathlib.Core.Path.{sym, ap, ◌∙◌}
 use mathlib.Core.List.{List, []}
 use lib.ListN.{get_or, take, set}
-use borrow.Author.Rules.{rules}
 use Rattle.laws.specs.Moves.{removed, replaced}
 use Rattle.queue.specs.Rows.{with_last}
 use Rattle.queue.proofs.Arrivals.{holds_gone, holds_kept}

@@ -1,6 +1,5 @@
 -- By the three tests.
 use mathlib.Core.Path.{refl}
-use borrow.Author.Rules.{rules}
 use borrow.Author.Tests.{eq-eqb, ne_eqb}
 use Rattle.queue.proofs.Nets.{net_low, net_over}
 use Rattle.queue.proofs.input.recounted_verdict.Goals as goal

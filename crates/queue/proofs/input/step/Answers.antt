@@ -1,5 +1,4 @@
 -- By the sign.
-use borrow.Author.Rules.{rules}
 use Rattle.queue.proofs.input.step.Goals as goal
 
 pub returns-then-anti : goal.returns-then-anti

@@ -1,11 +1,6 @@
-use Prim.Native.Nat.{◌-◌, ◌≤◌}
 use mathlib.Core.Path.{◌≡◌, refl, sym, ◌∙◌}
-use mathlib.Core.List.{map}
 use native.Mathlib.Omega.{arith}
-use lib.ListN.{take, drop}
 use borrow.Author.Rules.{rules}
-use Rattle.definition.specs.State.{unread_after}
-use Rattle.queue.specs.Rows.{entry_of, entries}
 use Rattle.queue.proofs.Least.{unread_none, unread_skip, unread_here}
 use Rattle.queue.proofs.input.unread.Goals as goal
 

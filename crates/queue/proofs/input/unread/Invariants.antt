@@ -1,13 +1,10 @@
 -- The loop holds that the rows from k on have the unread time of all. The first that is unread has it, since the queue is in order.
 use Prim.Native.Nat.{◌-◌, ◌≤◌}
-use mathlib.Core.Path.{◌≡◌, refl, sym, ◌∙◌}
+use mathlib.Core.Path.{◌≡◌}
 use mathlib.Core.List.{map}
-use native.Mathlib.Omega.{arith}
 use lib.ListN.{take, drop}
-use borrow.Author.Rules.{rules}
 use Rattle.definition.specs.State.{unread_after}
 use Rattle.queue.specs.Rows.{entry_of, entries}
-use Rattle.queue.proofs.Least.{unread_none, unread_skip, unread_here}
 use Rattle.queue.proofs.input.unread.Given as goal
 
 abbrev pub invariant-loop-k : goal.invariant-loop-k

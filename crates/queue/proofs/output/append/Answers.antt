@@ -1,5 +1,4 @@
 -- The row that is put says the message.
-use borrow.Author.Rules.{rules}
 use Rattle.queue.specs.Rows.{message_of, with_last}
 use Rattle.queue.proofs.Joins.{put_said}
 use Rattle.queue.proofs.output.append.Goals as goal

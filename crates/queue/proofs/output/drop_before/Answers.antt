@@ -2,7 +2,6 @@
 use Prim.Native.Nat.{◌-◌}
 use mathlib.Core.Path.{ap, ◌∙◌}
 use lib.ListN.{take}
-use borrow.Author.Rules.{rules}
 use Rattle.laws.specs.Moves.{shifted}
 use Rattle.queue.specs.Rows.{message_of}
 use Rattle.queue.specs.Queues.{sent_at}

@@ -1,6 +1,5 @@
 -- The time is a word of the row, and does not fall in a queue that is in order.
 use mathlib.Core.Path.{refl}
-use borrow.Author.Rules.{rules}
 use Rattle.queue.specs.Rows.{message_of}
 use Rattle.queue.specs.Queues.{sent_at}
 use Rattle.queue.proofs.Orders.{sent_rises}

@@ -1,8 +1,5 @@
-use Prim.Native.Nat.{◌≤◌, ◌<◌}
 use mathlib.Core.Path.{◌≡◌}
-use mathlib.Core.List.{[]}
 use native.Mathlib.Omega.{arith}
-use lib.ListN.{get_or}
 use borrow.Author.Rules.{rules}
 use Rattle.queue.proofs.rows.below.Goals as goal
 

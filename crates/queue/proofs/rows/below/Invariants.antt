@@ -1,10 +1,7 @@
 -- The loop holds that the row at i, where there is one, has no word below t.
 use Prim.Native.Nat.{◌≤◌, ◌<◌}
-use mathlib.Core.Path.{◌≡◌}
 use mathlib.Core.List.{[]}
-use native.Mathlib.Omega.{arith}
 use lib.ListN.{get_or}
-use borrow.Author.Rules.{rules}
 use Rattle.queue.proofs.rows.below.Given as goal
 
 abbrev pub invariant-loop-i : goal.invariant-loop-i

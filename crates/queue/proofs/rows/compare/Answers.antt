@@ -1,9 +1,7 @@
-use Prim.Native.Nat.{◌≤◌, ◌-◌}
-use mathlib.Core.Path.{◌≡◌, ◌∙◌}
+use mathlib.Core.Path.{◌∙◌}
 use borrow.Author.Rules.{rules}
 use native.Mathlib.Omega.{arith}
-use Rattle.queue.specs.Queues.{reading_order}
-use Rattle.queue.proofs.Reading.{order_from, order_start, order_done, order_less, order_more, order_next}
+use Rattle.queue.proofs.Reading.{order_start, order_done, order_less, order_more, order_next}
 use Rattle.queue.proofs.rows.compare.Goals as goal
 
 pub loop-k-init : goal.loop-k-init

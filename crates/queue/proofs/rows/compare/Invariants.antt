@@ -1,10 +1,8 @@
 -- The loop holds that the words before k are equal, so that the order is that of the words from k on.
 use Prim.Native.Nat.{◌≤◌, ◌-◌}
-use mathlib.Core.Path.{◌≡◌, ◌∙◌}
-use borrow.Author.Rules.{rules}
-use native.Mathlib.Omega.{arith}
+use mathlib.Core.Path.{◌≡◌}
 use Rattle.queue.specs.Queues.{reading_order}
-use Rattle.queue.proofs.Reading.{order_from, order_start, order_done, order_less, order_more, order_next}
+use Rattle.queue.proofs.Reading.{order_from}
 use Rattle.queue.proofs.rows.compare.Given as goal
 
 abbrev pub invariant-loop-k : goal.invariant-loop-k

@@ -1,9 +1,8 @@
-use Prim.Native.Nat.{◌≤◌, ◌-◌}
 use mathlib.Core.Path.{◌≡◌, refl}
 use mathlib.Core.List.{[]}
 use native.Mathlib.Omega.{arith}
-use lib.ListN.{drop, length, length-set}
-use lib.Seq.{paste, paste-zero}
+use lib.ListN.{drop, length-set}
+use lib.Seq.{paste-zero}
 use borrow.Author.Rules.{rules}
 use Rattle.laws.specs.Moves.{down_step}
 use Rattle.queue.proofs.rows.down.Goals as goal

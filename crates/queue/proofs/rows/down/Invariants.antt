@@ -1,12 +1,8 @@
 -- The loop holds that j rows have moved, the first ones first: what is still to move lies behind, as it was.
 use Prim.Native.Nat.{◌≤◌, ◌-◌}
-use mathlib.Core.Path.{◌≡◌, refl}
-use mathlib.Core.List.{[]}
-use native.Mathlib.Omega.{arith}
-use lib.ListN.{drop, length, length-set}
-use lib.Seq.{paste, paste-zero}
-use borrow.Author.Rules.{rules}
-use Rattle.laws.specs.Moves.{down_step}
+use mathlib.Core.Path.{◌≡◌}
+use lib.ListN.{drop, length}
+use lib.Seq.{paste}
 use Rattle.queue.proofs.rows.down.Given as goal
 
 abbrev pub invariant-loop-j : goal.invariant-loop-j

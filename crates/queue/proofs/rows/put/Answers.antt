@@ -2,7 +2,6 @@
 use mathlib.Core.Path.{◌∙◌}
 use native.Mathlib.Numerals.{add-one}
 use lib.Seq.{take-suc-set}
-use borrow.Author.Rules.{rules}
 use Rattle.queue.proofs.rows.put.Goals as goal
 
 pub returns : goal.returns

@@ -1,8 +1,6 @@
-use Prim.Native.Nat.{◌≤◌, ◌-◌, ◌+◌}
-use mathlib.Core.Path.{◌≡◌, refl}
+use mathlib.Core.Path.{refl}
 use mathlib.Core.List.{[]}
-use lib.ListN.{drop, length, length-set}
-use lib.Seq.{paste}
+use lib.ListN.{length-set}
 use borrow.Author.Rules.{rules}
 use Rattle.laws.specs.Moves.{up_turn, up_none, up_all}
 use Rattle.queue.proofs.rows.up.Goals as goal

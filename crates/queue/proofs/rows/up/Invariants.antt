@@ -1,11 +1,8 @@
 -- The loop holds that the rows from j on have moved, the last ones first: what is still to move lies before, as it was.
 use Prim.Native.Nat.{◌≤◌, ◌-◌, ◌+◌}
-use mathlib.Core.Path.{◌≡◌, refl}
-use mathlib.Core.List.{[]}
-use lib.ListN.{drop, length, length-set}
+use mathlib.Core.Path.{◌≡◌}
+use lib.ListN.{drop, length}
 use lib.Seq.{paste}
-use borrow.Author.Rules.{rules}
-use Rattle.laws.specs.Moves.{up_turn, up_none, up_all}
 use Rattle.queue.proofs.rows.up.Given as goal
 
 abbrev pub invariant-loop-j : goal.invariant-loop-j

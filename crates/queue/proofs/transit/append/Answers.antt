@@ -1,5 +1,4 @@
 -- The row that is put says the message with its sign.
-use borrow.Author.Rules.{rules}
 use Rattle.queue.specs.Rows.{mail_of, with_last}
 use Rattle.queue.proofs.Joins.{put_said}
 use Rattle.queue.proofs.transit.append.Goals as goal

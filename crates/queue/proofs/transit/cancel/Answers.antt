@@ -1,13 +1,11 @@
-use Prim.Native.Nat.{ℕ, ◌≤◌, ◌-◌, ◌+◌}
+use Prim.Native.Nat.{ℕ, ◌-◌, ◌+◌}
 use mathlib.Core.Path.{◌≡◌, refl}
-use mathlib.Core.List.{List, [], ◌++◌, map}
+use mathlib.Core.List.{List, []}
 use native.Mathlib.Omega.{arith}
 use lib.ListN.{get_or, length, take, drop}
 use lib.Seq.{take_all}
 use borrow.Author.Rules.{rules}
-use Rattle.definition.specs.State.{minus}
 use Rattle.laws.specs.Slices.{part_length, part_at}
-use Rattle.queue.specs.Rows.{message_of, mails}
 use Rattle.queue.proofs.Joins.{joined, joined_none}
 use Rattle.queue.proofs.transit.cancel.Goals as goal
 

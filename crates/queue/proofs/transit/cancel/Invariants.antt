@@ -1,15 +1,10 @@
 -- The loop holds that the antimessages of j rows have joined.
-use Prim.Native.Nat.{ℕ, ◌≤◌, ◌-◌, ◌+◌}
-use mathlib.Core.Path.{◌≡◌, refl}
-use mathlib.Core.List.{List, [], ◌++◌, map}
-use native.Mathlib.Omega.{arith}
-use lib.ListN.{get_or, length, take, drop}
-use lib.Seq.{take_all}
-use borrow.Author.Rules.{rules}
+use Prim.Native.Nat.{◌≤◌, ◌-◌, ◌+◌}
+use mathlib.Core.Path.{◌≡◌}
+use mathlib.Core.List.{◌++◌, map}
+use lib.ListN.{length, take, drop}
 use Rattle.definition.specs.State.{minus}
-use Rattle.laws.specs.Slices.{part_length, part_at}
 use Rattle.queue.specs.Rows.{message_of, mails}
-use Rattle.queue.proofs.Joins.{joined, joined_none}
 use Rattle.queue.proofs.transit.cancel.Given as goal
 
 abbrev pub invariant-loop-j : goal.invariant-loop-j

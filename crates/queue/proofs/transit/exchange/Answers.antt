@@ -1,9 +1,7 @@
 -- One call after the other.
-use Prim.Native.Nat.{◌+◌}
 use mathlib.Core.Path.{ap, ◌∙◌}
 use mathlib.Core.List.{List, ◌++◌, map}
 use lib.ListN.{take, drop}
-use borrow.Author.Rules.{rules}
 use Rattle.definition.specs.State.{Mail, minus}
 use Rattle.queue.specs.Rows.{message_of}
 use Rattle.queue.proofs.transit.exchange.Goals as goal

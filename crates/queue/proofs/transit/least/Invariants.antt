@@ -1,13 +1,10 @@
 -- The loop holds that best is the least receive time of the rows from i on.
 use Prim.Native.Nat.{◌≤◌}
-use mathlib.Core.Path.{◌≡◌, ◌∙◌}
+use mathlib.Core.Path.{◌≡◌}
 use mathlib.Core.List.{map}
-use native.Mathlib.Omega.{arith}
 use lib.ListN.{take, drop}
-use borrow.Author.Rules.{rules}
 use Rattle.definition.specs.Calls.{least_mail}
 use Rattle.queue.specs.Rows.{mail_of}
-use Rattle.queue.proofs.Least.{least_none, least_step}
 use Rattle.queue.proofs.transit.least.Given as goal
 
 abbrev pub invariant-loop-i : goal.invariant-loop-i

@@ -3,7 +3,6 @@ use Prim.Native.Nat.{ℕ, ◌-◌}
 use mathlib.Core.Path.{ap, ◌∙◌}
 use mathlib.Core.List.{List}
 use lib.ListN.{take}
-use borrow.Author.Rules.{rules}
 use Rattle.laws.specs.Moves.{removed}
 use Rattle.queue.proofs.Joins.{removed_said}
 use Rattle.queue.proofs.transit.remove.Goals as goal

@@ -1,5 +1,4 @@
 -- The last row stands before nothing; else `compare` says how two rows stand in the reading order.
-use borrow.Author.Rules.{rules}
 use mathlib.Core.List.{[]}
 use mathlib.Core.Path.{◌∙◌}
 use Prim.Native.Nat.{◌+◌}

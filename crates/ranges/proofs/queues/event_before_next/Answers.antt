@@ -1,5 +1,4 @@
 -- The last event stands before nothing; else two times are held against each other.
-use borrow.Author.Rules.{rules}
 use mathlib.Core.Path.{◌∙◌}
 use Rattle.laws.specs.Walks.{last_row, row_next, less_only}
 use Rattle.history.specs.Rows.{saved_of}

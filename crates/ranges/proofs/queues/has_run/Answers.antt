@@ -1,10 +1,4 @@
-use borrow.Author.Rules.{rules}
-use mathlib.Core.Path.{◌≡◌, refl, sym, ◌∙◌}
-use mathlib.Core.List.{map}
-use Prim.Native.Nat.{◌-◌}
-use lib.ListN.{length, drop}
-use Rattle.definition.specs.BadState.{has_run}
-use Rattle.history.specs.Rows.{saved_of}
+use mathlib.Core.Path.{refl, sym, ◌∙◌}
 use Rattle.ranges.proofs.Rows.{run_end, run_here, run_later}
 use Rattle.ranges.proofs.queues.has_run.Goals as goal
 

@@ -1,12 +1,10 @@
 -- No event before i is of that time. The measure is what is left of the events.
-use borrow.Author.Rules.{rules}
-use mathlib.Core.Path.{◌≡◌, refl, sym, ◌∙◌}
+use mathlib.Core.Path.{◌≡◌}
 use mathlib.Core.List.{map}
 use Prim.Native.Nat.{◌-◌}
 use lib.ListN.{length, drop}
 use Rattle.definition.specs.BadState.{has_run}
 use Rattle.history.specs.Rows.{saved_of}
-use Rattle.ranges.proofs.Rows.{run_end, run_here, run_later}
 use Rattle.ranges.proofs.queues.has_run.Given as goal
 
 abbrev pub invariant-loop-i : goal.invariant-loop-i

@@ -1,10 +1,6 @@
-use borrow.Author.Rules.{rules}
-use mathlib.Core.Path.{◌≡◌, refl, sym, ◌∙◌}
-use mathlib.Core.List.{map}
-use Prim.Native.Nat.{◌-◌}
-use lib.ListN.{length, drop}
+use mathlib.Core.Path.{refl, sym, ◌∙◌}
 use Rattle.definition.specs.BadState.{ok_entry}
-use Rattle.laws.specs.Walks.{walked, walk_end, walk_wrong, walk_unordered, walk_right, yes_said, no_said}
+use Rattle.laws.specs.Walks.{walk_end, walk_wrong, walk_unordered, walk_right}
 use Rattle.queue.specs.Rows.{entry_of}
 use Rattle.definition.specs.State.{entry_key}
 use Rattle.ranges.proofs.queues.ok_entries.Goals as goal

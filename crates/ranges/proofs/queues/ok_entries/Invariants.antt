@@ -1,12 +1,11 @@
 -- What the rows from i on say is what all said: a row that passes and stands before the next leaves it so, one that does not makes it false. The
 -- measure is what is left of the rows.
-use borrow.Author.Rules.{rules}
-use mathlib.Core.Path.{◌≡◌, refl, sym, ◌∙◌}
+use mathlib.Core.Path.{◌≡◌}
 use mathlib.Core.List.{map}
 use Prim.Native.Nat.{◌-◌}
 use lib.ListN.{length, drop}
 use Rattle.definition.specs.BadState.{ok_entry}
-use Rattle.laws.specs.Walks.{walked, walk_end, walk_wrong, walk_unordered, walk_right, yes_said, no_said}
+use Rattle.laws.specs.Walks.{walked}
 use Rattle.queue.specs.Rows.{entry_of}
 use Rattle.definition.specs.State.{entry_key}
 use Rattle.ranges.proofs.queues.ok_entries.Given as goal

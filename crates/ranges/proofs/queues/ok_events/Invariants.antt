@@ -1,11 +1,10 @@
 -- By the walk of ok_entries, over events.
-use borrow.Author.Rules.{rules}
-use mathlib.Core.Path.{◌≡◌, refl, sym, ◌∙◌}
+use mathlib.Core.Path.{◌≡◌}
 use mathlib.Core.List.{map}
 use Prim.Native.Nat.{◌-◌}
 use lib.ListN.{length, drop}
 use Rattle.definition.specs.BadState.{ok_saved}
-use Rattle.laws.specs.Walks.{walked, walk_end, walk_wrong, walk_unordered, walk_right, yes_said, no_said}
+use Rattle.laws.specs.Walks.{walked}
 use Rattle.history.specs.Rows.{saved_of}
 use Rattle.ranges.specs.Keys.{saved_key}
 use Rattle.ranges.proofs.queues.ok_events.Given as goal

@@ -1,11 +1,6 @@
-use borrow.Author.Rules.{rules}
-use mathlib.Core.Path.{◌≡◌, refl, sym, ◌∙◌}
-use mathlib.Core.List.{map}
-use Prim.Native.Nat.{◌-◌}
-use lib.ListN.{length, drop}
-use Rattle.definition.specs.Lists.{all}
+use mathlib.Core.Path.{refl, sym, ◌∙◌}
 use Rattle.definition.specs.BadState.{ok_mail}
-use Rattle.laws.specs.Walks.{all_end, all_wrong, all_right, yes_said, no_said}
+use Rattle.laws.specs.Walks.{all_end, all_wrong, all_right}
 use Rattle.queue.specs.Rows.{mail_of}
 use Rattle.ranges.proofs.queues.ok_mails.Goals as goal
 

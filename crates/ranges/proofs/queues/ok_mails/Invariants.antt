@@ -1,12 +1,10 @@
 -- What the rows from i on say is what all said; transit has no order. The measure is what is left of the rows.
-use borrow.Author.Rules.{rules}
-use mathlib.Core.Path.{◌≡◌, refl, sym, ◌∙◌}
+use mathlib.Core.Path.{◌≡◌}
 use mathlib.Core.List.{map}
 use Prim.Native.Nat.{◌-◌}
 use lib.ListN.{length, drop}
 use Rattle.definition.specs.Lists.{all}
 use Rattle.definition.specs.BadState.{ok_mail}
-use Rattle.laws.specs.Walks.{all_end, all_wrong, all_right, yes_said, no_said}
 use Rattle.queue.specs.Rows.{mail_of}
 use Rattle.ranges.proofs.queues.ok_mails.Given as goal
 

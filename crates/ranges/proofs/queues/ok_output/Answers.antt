@@ -1,8 +1,6 @@
 -- Each test is the next conjunct of `ok_output`.
 use Rattle.std.proofs.Common.{sym, ◌∙◌}
-use borrow.Author.Rules.{rules}
 use borrow.Author.Tests.{eq-eqb, ne_eqb}
-use Rattle.laws.specs.Walks.{yes_said, no_said}
 use Rattle.queue.specs.Rows.{message_of}
 use Rattle.ranges.proofs.queues.ok_output.Goals as goal
 

@@ -1,11 +1,8 @@
-use borrow.Author.Rules.{rules}
-use mathlib.Core.Path.{◌≡◌, refl, sym, ◌∙◌}
+use mathlib.Core.Path.{refl, sym, ◌∙◌}
 use mathlib.Core.List.{map}
-use Prim.Native.Nat.{◌-◌}
-use lib.ListN.{length, drop}
 use Rattle.definition.specs.Message.{output_key}
 use Rattle.definition.specs.BadState.{ok_output}
-use Rattle.laws.specs.Walks.{walked, walk_end, walk_wrong, walk_unordered, walk_right, yes_said, no_said}
+use Rattle.laws.specs.Walks.{walk_end, walk_wrong, walk_unordered, walk_right}
 use Rattle.queue.specs.Rows.{message_of}
 use Rattle.history.specs.Rows.{saved_of}
 use Rattle.ranges.proofs.queues.ok_outputs.Goals as goal

@@ -1,12 +1,11 @@
 -- By the walk of ok_entries, over output entries.
-use borrow.Author.Rules.{rules}
-use mathlib.Core.Path.{◌≡◌, refl, sym, ◌∙◌}
+use mathlib.Core.Path.{◌≡◌}
 use mathlib.Core.List.{map}
 use Prim.Native.Nat.{◌-◌}
 use lib.ListN.{length, drop}
 use Rattle.definition.specs.Message.{output_key}
 use Rattle.definition.specs.BadState.{ok_output}
-use Rattle.laws.specs.Walks.{walked, walk_end, walk_wrong, walk_unordered, walk_right, yes_said, no_said}
+use Rattle.laws.specs.Walks.{walked}
 use Rattle.queue.specs.Rows.{message_of}
 use Rattle.history.specs.Rows.{saved_of}
 use Rattle.ranges.proofs.queues.ok_outputs.Given as goal

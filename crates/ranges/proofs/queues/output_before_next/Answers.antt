@@ -1,5 +1,4 @@
 -- The last row stands before nothing; else two rows are held against each other.
-use borrow.Author.Rules.{rules}
 use mathlib.Core.Path.{◌∙◌}
 use Rattle.definition.specs.Message.{output_key}
 use Rattle.laws.specs.Walks.{last_row, row_next}

@@ -1,5 +1,4 @@
 -- A smaller send time decides, a larger one too; at equal times the ordinals do.
-use borrow.Author.Rules.{rules}
 use Rattle.laws.specs.Walks.{less_first, more_first, less_second}
 use Rattle.queue.specs.Rows.{message_of}
 use Rattle.ranges.proofs.queues.sent_before.Goals as goal

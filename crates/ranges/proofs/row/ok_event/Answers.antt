@@ -1,5 +1,4 @@
 -- Each test is the next conjunct of `ok_saved`.
-use borrow.Author.Rules.{rules}
 use borrow.Author.Tests.{le-leb, lt-leb}
 use Rattle.definition.specs.Message.{last_usable}
 use Rattle.history.specs.Rows.{saved_of}

@@ -1,7 +1,5 @@
 -- Both tests are the conjuncts of `ok_mail`.
 use Rattle.std.proofs.Common.{sym, ◌∙◌}
-use borrow.Author.Rules.{rules}
-use Rattle.laws.specs.Walks.{yes_said, no_said}
 use Rattle.ranges.proofs.row.ok_mail.Goals as goal
 
 pub returns-then-not-ok_message : goal.returns-then-not-ok_message

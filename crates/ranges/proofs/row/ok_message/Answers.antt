@@ -1,5 +1,4 @@
 -- Each test is the next conjunct of `ok_message`.
-use borrow.Author.Rules.{rules}
 use borrow.Author.Tests.{lt-ltb, le-ltb, le-leb, lt-leb}
 use Rattle.definition.specs.Message.{last_usable, never}
 use Rattle.queue.specs.Rows.{message_of}

@@ -1,5 +1,4 @@
 -- The sender decides which of the two kinds of message it is.
-use borrow.Author.Rules.{rules}
 use borrow.Author.Tests.{eq-eqb, ne_eqb, lt-ltb, le-ltb}
 use Rattle.definition.specs.Message.{outside}
 use Rattle.definition.specs.BadState.{ok_source}
