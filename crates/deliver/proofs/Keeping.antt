@@ -15,7 +15,6 @@ use Rattle.definition.specs.declared.Answer.TheVariants.{Refused, Delivered}
 use Rattle.definition.specs.declared.Saved.{Saved}
 use Rattle.definition.specs.declared.Call.TheVariants.{Deliver}
 use Rattle.definition.specs.BadState.{bad, ok_message, ok_mail, ok_entry, ok_nets, call}
-use Rattle.definition.specs.Message.{Message}
 use Rattle.definition.specs.State.{Process, Mail, State, no_mail, process, from, sent_from, minus, without}
 use Rattle.definition.specs.Calls.{Result, done, check, refuse, rolled_back, met}
 use Rattle.laws.specs.Places.{all_at, and_true}

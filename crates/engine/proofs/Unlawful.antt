@@ -1,13 +1,13 @@
 -- An advance on a memory that is not lawful is refused by 16: nothing is due, and the buffer keeps its bytes.
-use mathlib.Core.Path.{◌≡◌, refl, sym, ap, ◌∙◌}
+use mathlib.Core.Path.{◌≡◌, refl, ap, ◌∙◌}
 use mathlib.Core.Bool.{Bool, true, false, not}
-use mathlib.Core.List.{List, []}
+use mathlib.Core.List.{List}
 use Prim.Native.Nat.{ℕ}
 use native.Mathlib.Omega.{arith}
 use Rattle.definition.specs.declared.Answer.TheVariants.{Refused}
 use Rattle.definition.specs.declared.Call.TheVariants.{Advance}
 use Rattle.definition.specs.Record.{onto}
-use Rattle.definition.specs.Calls.{refuse, advance}
+use Rattle.definition.specs.Calls.{refuse}
 use Rattle.definition.specs.BadState.{bad, call}
 use Rattle.memory.specs.Keeping.{check_yes, check_no, kept_unlawful}
 use Rattle.memory.specs.Memory.{Memory, state_of, shaped, lawful}

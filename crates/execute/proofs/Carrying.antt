@@ -8,7 +8,6 @@ use lib.Seq.{get_or-set_same, drop-set-lt}
 use Rattle.definition.specs.declared.Saved.{Saved}
 use Rattle.definition.specs.declared.Stand.{Stand}
 use Rattle.definition.specs.Model.{Done}
-use Rattle.definition.specs.State.{process}
 use Rattle.queue.specs.Rows.{entry_of, entries, messages}
 use Rattle.queue.specs.Queues.{received_at, Parted}
 use Rattle.history.specs.Rows.{saved_of, saved_at}

@@ -11,7 +11,6 @@ use Rattle.definition.specs.declared.Stand.{Stand}
 use Rattle.definition.specs.Calls.{number_of, values_of}
 use Rattle.definition.specs.Model.{Model}
 use Rattle.definition.specs.ModelBytes.{Parsed, Got, Fault}
-use Rattle.definition.specs.Record.{onto}
 use Rattle.definition.specs.Rehearsal.{rehearsal}
 use Rattle.rule.specs.Rows.{model_of}
 use Rattle.memory.specs.Memory.{Memory, state_of, Table, Rows}

@@ -6,7 +6,6 @@ use native.Mathlib.Omega.{arith}
 use lib.ListN.{length}
 use Rattle.house.specs.declared.Written.{Written}
 use Rattle.house.specs.Promise.{Writes}
-use Rattle.rehearsal.specs.declared.Progress.{Progress}
 use Rattle.rehearsal.specs.declared.Progress.TheVariants.{Printed}
 use Rattle.lines.specs.Events.{place_after, put_line, at_the_start}
 use Rattle.rehearsal.specs.Promise.{Says}

@@ -1,15 +1,14 @@
 -- The turn of a call keeps its promise: refused and nothing changed, at the end of the input, by a fault's line, or by the call's own.
 use mathlib.Core.Path.{◌≡◌, refl, sym, ap, ◌∙◌}
-use mathlib.Core.Bool.{Bool, true, false}
-use mathlib.Core.List.{List, []}
+use mathlib.Core.Bool.{true, false}
+use mathlib.Core.List.{List}
 use Prim.Native.Nat.{ℕ, zero, suc, ◌≤◌, ◌<◌}
 use native.Mathlib.Omega.{arith}
 use borrow.Author.Tests.{lt-ltb, le-ltb}
 use lib.ListN.{length}
 use Rattle.definition.specs.declared.Call.{Call}
 use Rattle.definition.specs.ModelBytes.{Got, Fault}
-use Rattle.definition.specs.BadState.{call}
-use Rattle.definition.specs.Program.{call_text, fault_line, call_lines, call_at}
+use Rattle.definition.specs.Program.{call_text, fault_line, call_at}
 use Rattle.definition.specs.Record.{onto}
 use Rattle.memory.specs.Memory.{Memory, state_of, lawful}
 use Rattle.rehearsal.specs.declared.Progress.{Progress}

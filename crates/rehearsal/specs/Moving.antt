@@ -1,5 +1,5 @@
 -- What a program that moves a turn's bytes relies on: what was printed lies within the text, and the next call stands further on in the input.
-use Rattle.std.specs.Prelude.{◌≡◌, refl, List, ◌++◌, drop, take}
+use Rattle.std.specs.Prelude.{◌≡◌, refl, List, drop, take}
 use Rattle.std.proofs.Math.Path.{ap}
 use Prim.Native.Nat.{ℕ, zero, suc, ◌+◌, ◌≤◌, ◌<◌}
 use native.Mathlib.Omega.{arith}

@@ -4,13 +4,12 @@ use Rattle.memory.specs.Laws.{lawful_shape}
 use Rattle.advance.specs.Rows.{histories, inputs, outputs}
 use Rattle.advance.specs.Entries.{summed_bytes, summed_few}
 use Rattle.advance.specs.Done.{refused, done}
-use borrow.Author.Rules.{rules}
 use native.Mathlib.Omega.{arith}
 use Rattle.advance.proofs.advance.Goals as goal
 
 pub reached-horizon-requires : goal.reached-horizon-requires
 reached-horizon-requires c =
-    let m = lawful_shape _ c.requires in  rw (c.size-processes.ensures, c.processes.ensures) (record { histories = histories _ c.requires; inputs = inputs _ c.requires; own_len = (m.numbers, omega (arith, m.mail, m.transit)) })
+    let m = lawful_shape _ c.requires in rw (c.size-processes.ensures, c.processes.ensures) (record { histories = histories _ c.requires; inputs = inputs _ c.requires; own_len = (m.numbers, omega (arith, m.mail, m.transit)) })
 
 pub measure-sum-requires : goal.measure-sum-requires
 measure-sum-requires c =
@@ -25,7 +24,7 @@ pub write-requires : goal.write-requires
 write-requires c = record { histories = rw (c.size-processes.ensures, c.processes.ensures) (histories _ c.requires); horizon_in_bounds = omega (arith, summed_bytes c.measure-sum.ensures, c.if-buffer-sum.false) }
 
 pub all-requires : goal.all-requires
-all-requires c = 
+all-requires c =
     rw (c.size-processes.ensures, c.processes.ensures) (record { histories = histories _ c.requires; inputs = inputs _ c.requires; outputs = outputs _ c.requires })
 
 pub word-requires : goal.word-requires

@@ -1,6 +1,5 @@
 -- By what `find` found: its rule is applied, or the process stands where it stood.
 use mathlib.Core.Path.{◌∙◌}
-use borrow.Author.Rules.{rules}
 use Rattle.answer.proofs.Search.{stood}
 use Rattle.answer.proofs.apply.Goals as goal
 

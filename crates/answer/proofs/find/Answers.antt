@@ -3,7 +3,6 @@ use mathlib.Core.List.{List}
 use mathlib.Core.Path.{ap, ◌∙◌}
 use Prim.Native.Nat.{ℕ}
 use native.Mathlib.Omega.{arith}
-use borrow.Author.Rules.{rules}
 use Rattle.found.specs.Search.{found_among}
 use Rattle.answer.proofs.Search.{found_past, found_at}
 use Rattle.answer.proofs.find.Goals as goal

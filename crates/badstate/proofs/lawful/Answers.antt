@@ -1,6 +1,5 @@
 -- Each test is the next part of the memory by `lawful_is`; the first that fails settles the answer.
 use Rattle.std.proofs.Common.{sym, ◌∙◌}
-use borrow.Author.Rules.{rules}
 use borrow.Author.Tests.{eq-eqb, ne_eqb}
 use native.Mathlib.Omega.{arith}
 use Rattle.laws.specs.Walks.{yes_said, no_said}

@@ -1,7 +1,5 @@
 -- The shape first, then what the rows say.
 use Rattle.std.proofs.Common.{sym, ◌∙◌}
-use borrow.Author.Rules.{rules}
-use Rattle.laws.specs.Walks.{yes_said, no_said}
 use Rattle.badstate.proofs.Laws.{process_yes, process_no}
 use Rattle.badstate.proofs.lawful_process.Goals as goal
 

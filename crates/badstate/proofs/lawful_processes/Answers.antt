@@ -1,9 +1,8 @@
 use borrow.Author.Rules.{rules}
 use native.Mathlib.Omega.{arith}
 use mathlib.Core.Path.{◌≡◌, sym, ◌∙◌}
-use Prim.Native.Nat.{◌≤◌, ◌-◌}
+use Prim.Native.Nat.{◌-◌}
 use Rattle.laws.specs.Walks.{yes_said, no_said}
-use Rattle.memory.specs.Memory.{all_of}
 use Rattle.badstate.specs.Parts.{lawful_at}
 use Rattle.badstate.proofs.Laws.{all_of_end, all_of_wrong, all_of_right}
 use Rattle.badstate.proofs.lawful_processes.Goals as goal

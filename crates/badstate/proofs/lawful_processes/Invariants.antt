@@ -1,12 +1,8 @@
 -- What the processes from p on say is what all said. The measure is what is left of them.
-use borrow.Author.Rules.{rules}
-use native.Mathlib.Omega.{arith}
-use mathlib.Core.Path.{◌≡◌, sym, ◌∙◌}
+use mathlib.Core.Path.{◌≡◌}
 use Prim.Native.Nat.{◌≤◌, ◌-◌}
-use Rattle.laws.specs.Walks.{yes_said, no_said}
 use Rattle.memory.specs.Memory.{all_of}
 use Rattle.badstate.specs.Parts.{lawful_at}
-use Rattle.badstate.proofs.Laws.{all_of_end, all_of_wrong, all_of_right}
 use Rattle.badstate.proofs.lawful_processes.Given as goal
 
 abbrev pub invariant-loop-p : goal.invariant-loop-p

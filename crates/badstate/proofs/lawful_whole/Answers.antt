@@ -1,5 +1,4 @@
 -- Each test is the next conjunct of `lawful_whole`; the rows handed on are what is in transit, by their count.
-use borrow.Author.Rules.{rules}
 use borrow.Author.Tests.{eq-eqb, ne_eqb, le-leb, lt-leb}
 use native.Mathlib.Omega.{arith}
 use mathlib.Core.Path.{sym}

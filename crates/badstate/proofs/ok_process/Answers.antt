@@ -1,7 +1,6 @@
 -- The parts of the rows that are handed on are what the process says: the first rows, by its counts. Each test is then the next conjunct of
 -- `ok_process`; the bounds hold by the shape.
 use Rattle.std.proofs.Common.{◌∙◌}
-use borrow.Author.Rules.{rules}
 use native.Mathlib.Omega.{arith}
 use mathlib.Core.Path.{◌≡◌, sym}
 use Prim.Native.Nat.{◌+◌, ◌-◌}

@@ -1,5 +1,4 @@
 -- Each test is the next conjunct of `shaped_at`.
-use borrow.Author.Rules.{rules}
 use borrow.Author.Tests.{eq-eqb, ne_eqb, le-leb, lt-leb}
 use Rattle.memory.specs.Memory.{shaped_at}
 use Rattle.badstate.proofs.shaped.Goals as goal

@@ -1,6 +1,5 @@
 -- Each call keeps its own promise; all but an advance leave the buffer as it was.
 use mathlib.Core.Path.{refl}
-use borrow.Author.Rules.{rules}
 use Rattle.calls.specs.Lent.{none_written, advance_commits}
 use Rattle.calls.proofs.make.Goals as goal
 

@@ -1,8 +1,6 @@
 -- The definition's refusal, or the memory that Keeping speaks of.
-use lib.ListN.{length-set}
 use Rattle.memory.specs.Laws.{lawful_shape}
 use Rattle.deliver.proofs.Keeping.{kept_none, within, sound, kept_no, few, kept_go}
-use borrow.Author.Rules.{rules}
 use native.Mathlib.Omega.{arith}
 use Rattle.deliver.proofs.deliver.Goals as goal
 

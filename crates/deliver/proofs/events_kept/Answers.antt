@@ -6,7 +6,6 @@ use Rattle.definition.specs.declared.Saved.{Saved}
 use Rattle.definition.specs.State.{before}
 use Rattle.history.specs.Rows.{saved_at}
 use Rattle.history.specs.Laws.{saved_at_length, all_before}
-use borrow.Author.Rules.{rules}
 use native.Mathlib.Omega.{arith}
 use Rattle.deliver.proofs.events_kept.Goals as goal
 

@@ -4,12 +4,11 @@ use mathlib.Core.Logic.{inl, inr}
 use borrow.Author.Tests.{not-true, not-false}
 use Rattle.memory.specs.Memory.{process_of}
 use Rattle.deliver.proofs.Tests.{full, crowded}
-use borrow.Author.Rules.{rules}
 use native.Mathlib.Omega.{arith}
 use Rattle.deliver.proofs.judge.Goals as goal
 
 pub judge-arrival-requires : goal.judge-arrival-requires
-judge-arrival-requires c = 
+judge-arrival-requires c =
     rw c.size-entries.ensures (record { n_in_bounds = omega (arith, c.requires.sound.input_rows, c.requires.sound.few_entries); n_value = c.requires.sound.input_order; n_value_2 = c.requires.sound.nets })
 
 pub returns-then-arrival : goal.returns-then-arrival

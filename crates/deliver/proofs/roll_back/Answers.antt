@@ -1,19 +1,17 @@
 -- The events that are kept stand in the first rows, as the output entries do.
-use lib.ListN.{length}
 use Prim.Native.Nat.{◌≤◌}
 use Rattle.history.specs.Rows.{saved_at}
 use Rattle.history.specs.Laws.{length_before_from, saved_at_length, saved_at_before}
 use Rattle.memory.specs.Memory.{number}
-use borrow.Author.Rules.{rules}
 use native.Mathlib.Omega.{arith}
 use Rattle.deliver.proofs.roll_back.Goals as goal
 
 pub sent_before-kept-requires : goal.sent_before-kept-requires
-sent_before-kept-requires c = 
+sent_before-kept-requires c =
     rw c.size-sends.ensures (record { n_in_bounds = omega (arith, c.requires.output_rows, c.requires.few_sends); n_value = c.requires.output_order })
 
 pub events_kept-left-requires : goal.events_kept-left-requires
-events_kept-left-requires c = 
+events_kept-left-requires c =
     rw c.size-events.ensures (record { events_bound = (c.requires.few_events, omega (arith, c.requires.own_rows, c.requires.few_events)); in_order = c.requires.history_order })
 
 pub overflow_sub-result-2 : goal.overflow_sub-result-2

@@ -1,7 +1,6 @@
 -- `engine::advance` meets its contract: a memory that is not lawful is refused by 16 and left as it was, the buffer too, and on a lawful one the call keeps the promise.
-use mathlib.Core.Path.{◌≡◌, sym, ◌∙◌}
+use mathlib.Core.Path.{sym, ◌∙◌}
 use Rattle.engine.proofs.Unlawful.{committed_unlawful}
-use borrow.Author.Rules.{rules}
 use Rattle.engine.proofs.advance.Goals as goal
 
 pub advance-requires : goal.advance-requires

@@ -1,8 +1,7 @@
 -- `engine::execute` meets its contract: a memory that is not lawful is refused by 16 and left as it was, and on a lawful one the call keeps the promise.
-use mathlib.Core.Path.{◌≡◌, sym, ◌∙◌}
+use mathlib.Core.Path.{sym, ◌∙◌}
 use Rattle.definition.specs.declared.Call.TheVariants.{Execute}
 use Rattle.memory.specs.Keeping.{kept_unlawful}
-use borrow.Author.Rules.{rules}
 use Rattle.engine.proofs.execute.Goals as goal
 
 pub execute-requires : goal.execute-requires

@@ -2,7 +2,6 @@
 use Rattle.rule.specs.Rows.{rule_of}
 use Rattle.event.proofs.Sending.{counted_few, rule_length, answers}
 use native.Mathlib.Omega.{arith}
-use borrow.Author.Rules.{rules}
 use Rattle.event.proofs.answered.Goals as goal
 
 pub overflow_add-result : goal.overflow_add-result

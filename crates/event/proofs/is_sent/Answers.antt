@@ -4,7 +4,6 @@ use mathlib.Core.Path.{sym}
 use borrow.Author.Tests.{le-leb, lt-leb}
 use Rattle.definition.specs.Message.{last_usable}
 use native.Mathlib.Omega.{arith}
-use borrow.Author.Rules.{rules}
 use Rattle.event.proofs.is_sent.Goals as goal
 
 pub returns-then-time-send : goal.returns-then-time-send

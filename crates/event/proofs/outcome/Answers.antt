@@ -1,11 +1,9 @@
-use Prim.Native.Nat.{ℕ, ◌-◌, ◌≤◌}
 use mathlib.Core.Path.{◌≡◌}
 use mathlib.Core.List.{[]}
 use Rattle.queue.specs.Queues.{reads_from}
 use Rattle.queue.proofs.Walk.{reads_end, reads_stop}
-use Rattle.event.specs.Event.{Within}
 use Rattle.event.proofs.Sending.{within_all}
-use Rattle.event.proofs.Walks.{Left, left_start, left_step, left_end}
+use Rattle.event.proofs.Walks.{left_start, left_step, left_end}
 use borrow.Author.Rules.{rules}
 use native.Mathlib.Omega.{arith}
 use Rattle.event.proofs.outcome.Goals as goal

@@ -1,12 +1,9 @@
-use Prim.Native.Nat.{◌-◌, ◌≤◌}
 use mathlib.Core.Path.{◌≡◌, refl, ◌∙◌}
 use mathlib.Core.List.{[]}
-use lib.ListN.{length}
 use Rattle.queue.specs.Queues.{reads_from}
 use Rattle.queue.proofs.Walk.{reads_end, reads_stop}
-use Rattle.event.specs.Event.{Within}
 use Rattle.event.proofs.Sending.{within_all}
-use Rattle.event.proofs.Walks.{Leaving, row_room, leaving_start, leaving_step, leaving_end}
+use Rattle.event.proofs.Walks.{row_room, leaving_start, leaving_step, leaving_end}
 use borrow.Author.Rules.{rules}
 use native.Mathlib.Omega.{arith}
 use Rattle.event.proofs.perform.Goals as goal

@@ -1,15 +1,9 @@
 -- The loop holds that what has joined, with what is left to send, is what the whole event sends.
 use Prim.Native.Nat.{◌-◌, ◌≤◌}
-use mathlib.Core.Path.{◌≡◌, refl, ◌∙◌}
-use mathlib.Core.List.{[]}
+use mathlib.Core.Path.{◌≡◌}
 use lib.ListN.{length}
-use Rattle.queue.specs.Queues.{reads_from}
-use Rattle.queue.proofs.Walk.{reads_end, reads_stop}
 use Rattle.event.specs.Event.{Within}
-use Rattle.event.proofs.Sending.{within_all}
-use Rattle.event.proofs.Walks.{Leaving, row_room, leaving_start, leaving_step, leaving_end}
-use borrow.Author.Rules.{rules}
-use native.Mathlib.Omega.{arith}
+use Rattle.event.proofs.Walks.{Leaving}
 use Rattle.event.proofs.perform.Given as goal
 
 abbrev pub invariant-loop-i : goal.invariant-loop-i

@@ -1,7 +1,6 @@
 -- What the rule sends goes by the tally after its effect.
 use Rattle.event.proofs.Sending.{answer_sends}
 use native.Mathlib.Omega.{arith}
-use borrow.Author.Rules.{rules}
 use Rattle.event.proofs.perform_message.Goals as goal
 
 pub overflow_add-k : goal.overflow_add-k

@@ -3,11 +3,9 @@ use Rattle.std.proofs.Common.{sym, ◌∙◌}
 use Prim.Native.Nat.{◌+◌}
 use mathlib.Core.Path.{ap, subst}
 use Rattle.definition.specs.Model.{Done}
-use Rattle.laws.specs.Walks.{yes_said, no_said}
 use Rattle.event.specs.Event.{RoomFor}
 use Rattle.event.proofs.Sending.{row_answered, row_unanswered, row_passed, read_answered, read_unanswered, read_passed}
 use Rattle.event.proofs.Joining.{joined_none}
-use borrow.Author.Rules.{rules}
 use Rattle.event.proofs.perform_row.Goals as goal
 
 pub returns-then-not-is_read : goal.returns-then-not-is_read

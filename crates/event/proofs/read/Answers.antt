@@ -1,8 +1,6 @@
 -- By whether the row is read, and by what is found.
 use Rattle.std.proofs.Common.{sym, ◌∙◌}
-use Rattle.laws.specs.Walks.{yes_said, no_said}
 use Rattle.event.proofs.Sending.{read_answered, read_unanswered, read_passed}
-use borrow.Author.Rules.{rules}
 use Rattle.event.proofs.read.Goals as goal
 
 pub returns-then-not-is_read : goal.returns-then-not-is_read

@@ -5,11 +5,9 @@ use Rattle.definition.specs.Message.{last_usable}
 use mathlib.Core.Path.{sym, ap}
 use lib.ListN.{length}
 use borrow.Author.Tests.{leb-true}
-use Rattle.laws.specs.Walks.{yes_said, no_said}
 use Rattle.event.proofs.Sending.{send_late, send_timely, send_row}
 use Rattle.event.proofs.Joining.{joined_none, joined_one}
 use native.Mathlib.Omega.{arith}
-use borrow.Author.Rules.{rules}
 use Rattle.event.proofs.send.Goals as goal
 
 pub returns-then-not-is_sent : goal.returns-then-not-is_sent

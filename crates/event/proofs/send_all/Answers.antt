@@ -7,7 +7,6 @@ use Rattle.definition.specs.Model.{send_all}
 use Rattle.event.proofs.Sending.{rule_none, rule_one, rule_two, rule_first}
 use Rattle.event.proofs.Joining.{joined_none, joined_then}
 use native.Mathlib.Omega.{arith}
-use borrow.Author.Rules.{rules}
 use Rattle.event.proofs.send_all.Goals as goal
 
 pub returns-then-rule-eq0 : goal.returns-then-rule-eq0

@@ -6,7 +6,6 @@ use lib.ListN.{length, length-append}
 use Rattle.definition.specs.Model.{send_all}
 use Rattle.event.proofs.Sending.{counted_few, rule_none, rule_one, rule_two}
 use native.Mathlib.Omega.{arith}
-use borrow.Author.Rules.{rules}
 use Rattle.event.proofs.sends.Goals as goal
 
 pub returns-then-rule-eq0 : goal.returns-then-rule-eq0

@@ -2,7 +2,6 @@
 use mathlib.Core.Path.{sym, ap, ◌∙◌}
 use lib.ListN.{length}
 use Rattle.event.proofs.Sending.{send_late, send_timely}
-use borrow.Author.Rules.{rules}
 use Rattle.event.proofs.sent_by.Goals as goal
 
 pub returns-then-is_sent : goal.returns-then-is_sent

@@ -1,6 +1,5 @@
 -- The messages are sent, then the event and the counts are put down: together the process has worked its event.
 use Rattle.execute.proofs.Carrying.{performs, carries}
-use borrow.Author.Rules.{rules}
 use Rattle.execute.proofs.carry_out.Goals as goal
 
 pub perform-requires : goal.perform-requires

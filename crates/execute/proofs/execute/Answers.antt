@@ -5,7 +5,6 @@ use Rattle.rule.specs.Rows.{processes_of}
 use Rattle.memory.specs.Laws.{lawful_shape}
 use Rattle.execute.proofs.Keeping.{kept_outside, kept_no, kept_going, sound_at, carries_out}
 use native.Mathlib.Omega.{arith}
-use borrow.Author.Rules.{rules}
 use Rattle.execute.proofs.execute.Goals as goal
 
 pub returns-then-processes-process : goal.returns-then-processes-process

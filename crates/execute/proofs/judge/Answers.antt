@@ -1,7 +1,6 @@
 -- Test by test, by what was read before it: each refusal is that of the definition, and the last answer is the event that is due.
 use Rattle.execute.proofs.Judging.{scans, readable, judged_idle, judged_mail, judged_output, judged_history, judged_going}
 use native.Mathlib.Omega.{arith}
-use borrow.Author.Rules.{rules}
 use Rattle.execute.proofs.judge.Goals as goal
 
 pub unread-time-requires : goal.unread-time-requires

@@ -1,7 +1,6 @@
 -- Each test that refuses is a case of the promise; where none does, `answer::apply` stands where the definition's step does.
 use mathlib.Core.Path.{sym, ◌∙◌}
 use native.Mathlib.Omega.{arith}
-use borrow.Author.Rules.{rules}
 use borrow.Author.Tests.{not-true, not-false}
 use Rattle.host.specs.Steps.{bad_model, not_there, there}
 use Rattle.host.proofs.outcome_of.Goals as goal

@@ -1,6 +1,5 @@
 -- A refusal writes nothing. Else the row of the request joins transit and the numbers of the whole are stored: the memory that Steps speaks of.
 use native.Mathlib.Omega.{arith}
-use borrow.Author.Rules.{rules}
 use borrow.Author.Tests.{le-leb}
 use Rattle.definition.specs.Message.{never}
 use Rattle.memory.specs.Laws.{lawful_shape}

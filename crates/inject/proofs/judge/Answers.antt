@@ -1,6 +1,5 @@
 -- The tests of the definition, one after another.
 use borrow.Author.Tests.{eq-eqb, ne_eqb, lt-ltb, le-ltb, le-leb, lt-leb}
-use borrow.Author.Rules.{rules}
 use Rattle.inject.proofs.judge.Goals as goal
 
 pub returns-then-processes-receiver : goal.returns-then-processes-receiver

@@ -1,10 +1,6 @@
-use mathlib.Core.Path.{◌≡◌, refl, sym, ◌∙◌}
-use Prim.Native.Nat.{◌≤◌, ◌-◌}
+use mathlib.Core.Path.{refl, sym, ◌∙◌}
 use native.Mathlib.Omega.{arith}
 use borrow.Author.Rules.{rules}
-use lib.ListN.{length, drop}
-use Rattle.definition.specs.Lists.{all}
-use Rattle.model.specs.Stored.{is_full}
 use Rattle.model.proofs.Room.{room_next, room_short, room_end}
 use Rattle.model.proofs.has_room.Goals as goal
 

@@ -1,12 +1,9 @@
 -- `model::has_room` meets its contract. The invariant: all processes are full if those from here on are. The measure is how many are left.
-use mathlib.Core.Path.{◌≡◌, refl, sym, ◌∙◌}
+use mathlib.Core.Path.{◌≡◌}
 use Prim.Native.Nat.{◌≤◌, ◌-◌}
-use native.Mathlib.Omega.{arith}
-use borrow.Author.Rules.{rules}
 use lib.ListN.{length, drop}
 use Rattle.definition.specs.Lists.{all}
 use Rattle.model.specs.Stored.{is_full}
-use Rattle.model.proofs.Room.{room_next, room_short, room_end}
 use Rattle.model.proofs.has_room.Given as goal
 
 abbrev pub invariant-loop-place : goal.invariant-loop-place

@@ -5,7 +5,6 @@ use Rattle.field.specs.Gives.{in_range}
 use Rattle.field.specs.Reading.{field_in, read}
 use Rattle.model.specs.Accepted.{process_count}
 use Rattle.model.proofs.Storing.{broken, nothing_read_lem, left_over, model_stored}
-use borrow.Author.Rules.{rules}
 use Rattle.model.proofs.model_at.Goals as goal
 
 pub returns-in_default : goal.returns-in_default

@@ -1,7 +1,6 @@
 -- `model::process_at` meets its contract: past the last process nothing is put, else the rows are those of that process.
 use mathlib.Core.Path.{refl}
 use Rattle.model.proofs.Storing.{process_nowhere, process_stored}
-use borrow.Author.Rules.{rules}
 use Rattle.model.proofs.process_at.Goals as goal
 
 pub returns-then-model-place : goal.returns-then-model-place

@@ -1,10 +1,8 @@
 use mathlib.Core.Path.{refl, ◌∙◌}
-use Prim.Native.Nat.{◌≤◌, ◌-◌}
 use native.Mathlib.Omega.{arith}
-use Rattle.definition.specs.ModelBytes.{setups_at}
 use Rattle.field.specs.Reading.{field_in, read}
 use Rattle.model.specs.Stored.{put_process}
-use Rattle.model.proofs.Loops.{Going, stopped, ended}
+use Rattle.model.proofs.Loops.{stopped, ended}
 use Rattle.model.proofs.Rules.{setups_start, setups_fault, setups_turn, setups_end}
 use borrow.Author.Rules.{rules}
 use Rattle.model.proofs.processes_at.Goals as goal

@@ -1,13 +1,8 @@
 -- The invariant: so many processes are done, and what is left to read from here gives the rest. The measure is the number of processes that are left.
-use mathlib.Core.Path.{refl, ◌∙◌}
 use Prim.Native.Nat.{◌≤◌, ◌-◌}
-use native.Mathlib.Omega.{arith}
 use Rattle.definition.specs.ModelBytes.{setups_at}
-use Rattle.field.specs.Reading.{field_in, read}
 use Rattle.model.specs.Stored.{put_process}
-use Rattle.model.proofs.Loops.{Going, stopped, ended}
-use Rattle.model.proofs.Rules.{setups_start, setups_fault, setups_turn, setups_end}
-use borrow.Author.Rules.{rules}
+use Rattle.model.proofs.Loops.{Going}
 use Rattle.model.proofs.processes_at.Given as goal
 
 abbrev pub invariant-loop-done : goal.invariant-loop-done

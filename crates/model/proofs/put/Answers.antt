@@ -1,7 +1,6 @@
 -- `model::put` meets its contract: past the last row nothing is set.
 use mathlib.Core.Path.{sym}
 use lib.Seq.{set_out}
-use borrow.Author.Rules.{rules}
 use Rattle.model.proofs.put.Goals as goal
 
 pub returns-then-rows-place : goal.returns-then-rows-place

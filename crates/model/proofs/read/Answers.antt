@@ -5,7 +5,6 @@ use lib.ListN.{length}
 use Rattle.field.specs.Reading.{field_in, leaves}
 use Rattle.model.proofs.Steps.{made_fault}
 use Rattle.model.proofs.Promise.{no_room, refused, read_twice}
-use borrow.Author.Rules.{rules}
 use Rattle.model.proofs.read.Goals as goal
 
 pub returns-then-not-has_room : goal.returns-then-not-has_room

@@ -1,11 +1,9 @@
 use mathlib.Core.Path.{refl}
-use Prim.Native.Nat.{◌≤◌, ◌-◌}
 use native.Mathlib.Omega.{arith}
-use Rattle.definition.specs.ModelBytes.{rules_at}
 use Rattle.field.specs.Reading.{read, leaves}
 use Rattle.rulebytes.specs.Reading.{rule_in}
 use Rattle.model.specs.Stored.{put_rule}
-use Rattle.model.proofs.Loops.{Going, stopped, ended}
+use Rattle.model.proofs.Loops.{stopped, ended}
 use Rattle.model.proofs.Rules.{kind_small, rules_start, rules_fault, rules_turn, rules_end}
 use borrow.Author.Rules.{rules}
 use Rattle.model.proofs.rules_at.Goals as goal

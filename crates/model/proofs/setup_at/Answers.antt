@@ -3,7 +3,6 @@ use mathlib.Core.Path.{refl}
 use Rattle.definition.specs.ModelBytes.{setup_at}
 use Rattle.field.specs.Reading.{field_in, read}
 use Rattle.model.proofs.Storing.{broken, nothing_read_lem, setup_stored}
-use borrow.Author.Rules.{rules}
 use Rattle.model.proofs.setup_at.Goals as goal
 
 pub returns-in_default : goal.returns-in_default

@@ -1,8 +1,6 @@
 -- Refused and nothing changed, or a fault of the file, or what the model gives.
-use mathlib.Core.Path.{◌≡◌, sym, ◌∙◌}
-use native.Mathlib.Omega.{arith}
+use mathlib.Core.Path.{sym, ◌∙◌}
 use borrow.Author.Tests.{not-true, not-false}
-use borrow.Author.Rules.{rules}
 use Rattle.rehearsal.proofs.Beginning.{no_room, too_short, file_fault, file_fault_place}
 use Rattle.rehearsal.proofs.begin.Goals as goal
 

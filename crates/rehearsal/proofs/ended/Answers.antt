@@ -1,6 +1,5 @@
 -- A fault's line has at most 39 bytes, and the text has room for more.
 use native.Mathlib.Omega.{arith}
-use borrow.Author.Rules.{rules}
 use Rattle.text.specs.Lines.{fault_most}
 use Rattle.rehearsal.proofs.Saying.{said}
 use Rattle.rehearsal.proofs.ended.Goals as goal

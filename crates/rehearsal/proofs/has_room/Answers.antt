@@ -1,8 +1,6 @@
 -- The model's rows first, then the lists.
-use mathlib.Core.Path.{◌≡◌, sym, ◌∙◌}
-use native.Mathlib.Omega.{arith}
+use mathlib.Core.Path.{sym, ◌∙◌}
 use borrow.Author.Tests.{not-true, not-false}
-use borrow.Author.Rules.{rules}
 use Rattle.rehearsal.proofs.has_room.Goals as goal
 
 pub returns-then-not-has_room : goal.returns-then-not-has_room

@@ -1,6 +1,5 @@
 -- The model is read from its part of the input. A refusal leaves its rows as they were; an accepted model is one that a start takes.
 use native.Mathlib.Omega.{arith}
-use borrow.Author.Rules.{rules}
 use Rattle.laws.specs.Places.{and_true}
 use Rattle.text.specs.Lines.{model_most}
 use Rattle.runfile.specs.Reading.{head_within}

@@ -1,8 +1,7 @@
 -- The tests in their order, then the call: read, made and printed, or its fault told.
-use mathlib.Core.Path.{◌≡◌, sym, ap, ◌∙◌}
+use mathlib.Core.Path.{sym, ap, ◌∙◌}
 use native.Mathlib.Omega.{arith}
 use borrow.Author.Tests.{not-true, not-false}
-use borrow.Author.Rules.{rules}
 use Rattle.calls.specs.Lent.{lent_whole}
 use Rattle.runfile.specs.Reading.{call_parsed}
 use Rattle.runfile.specs.Places.{call_fault_placed}

@@ -1,6 +1,5 @@
 -- The last row has none to stand before; another is compared with the next.
 use mathlib.Core.Path.{◌∙◌}
-use borrow.Author.Rules.{rules}
 use Rattle.laws.specs.Walks.{last_row, row_next}
 use Rattle.rulecheck.specs.Check.{itself, row_key}
 use Rattle.rulecheck.proofs.ascends_at.Goals as goal

@@ -1,7 +1,6 @@
 -- Each test that fails makes the definition false; where all hold, the processes decide.
 use mathlib.Core.Path.{◌∙◌}
 use native.Mathlib.Omega.{arith}
-use borrow.Author.Rules.{rules}
 use Rattle.rulecheck.specs.Check.{lawful_short, lawful_none, lawful_many, lawful_processes}
 use Rattle.rulecheck.proofs.lawful.Goals as goal
 

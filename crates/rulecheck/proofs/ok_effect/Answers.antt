@@ -1,5 +1,4 @@
 -- Case by case of the effect.
-use borrow.Author.Rules.{rules}
 use Rattle.rulecheck.proofs.ok_effect.Goals as goal
 
 pub returns-in-Set : goal.returns-in-Set

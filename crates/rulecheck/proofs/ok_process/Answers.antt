@@ -1,7 +1,6 @@
 -- Each test that fails makes the definition false; where all hold, the rules decide.
 use mathlib.Core.Path.{ap, ◌∙◌}
 use native.Mathlib.Omega.{arith}
-use borrow.Author.Rules.{rules}
 use Rattle.definition.specs.declared.Stand.{Stand}
 use Rattle.rulecheck.specs.Check.{ok_rows, process_short, process_count, process_mode, process_tally, process_rules}
 use Rattle.rulecheck.proofs.ok_process.Goals as goal

@@ -1,11 +1,8 @@
 use mathlib.Core.List.{[]}
-use mathlib.Core.Path.{◌≡◌, refl, sym, ◌∙◌}
-use Prim.Native.Nat.{◌≤◌, ◌-◌}
+use mathlib.Core.Path.{refl, sym, ◌∙◌}
 use native.Mathlib.Omega.{arith}
-use lib.ListN.{take, drop}
 use borrow.Author.Tests.{not-true, not-false}
 use borrow.Author.Rules.{rules}
-use Rattle.definition.specs.Lists.{all}
 use Rattle.rulecheck.specs.Check.{ok_process}
 use Rattle.rulecheck.proofs.Steps.{all_wrong, all_right, all_done}
 use Rattle.rulecheck.proofs.ok_processes.Goals as goal

@@ -1,14 +1,9 @@
 -- The loop's invariant: what is left of the processes from `p` on says what all of them say. The measure is what is left of the count.
-use mathlib.Core.List.{[]}
-use mathlib.Core.Path.{◌≡◌, refl, sym, ◌∙◌}
+use mathlib.Core.Path.{◌≡◌}
 use Prim.Native.Nat.{◌≤◌, ◌-◌}
-use native.Mathlib.Omega.{arith}
 use lib.ListN.{take, drop}
-use borrow.Author.Tests.{not-true, not-false}
-use borrow.Author.Rules.{rules}
 use Rattle.definition.specs.Lists.{all}
 use Rattle.rulecheck.specs.Check.{ok_process}
-use Rattle.rulecheck.proofs.Steps.{all_wrong, all_right, all_done}
 use Rattle.rulecheck.proofs.ok_processes.Given as goal
 
 abbrev pub invariant-loop-p : goal.invariant-loop-p

@@ -1,6 +1,5 @@
 -- The shape, then the rule that the row says.
 use mathlib.Core.Path.{sym, ap, ◌∙◌}
-use borrow.Author.Rules.{rules}
 use Rattle.definition.specs.Model.{ok_rule}
 use Rattle.rule.specs.Rows.{rule_of}
 use Rattle.rule.specs.declared.Decoded.{Decoded}

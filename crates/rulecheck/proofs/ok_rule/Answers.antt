@@ -1,7 +1,6 @@
 -- Each test that fails makes the definition false; where all hold, the sends decide.
 use mathlib.Core.Path.{sym, ◌∙◌}
 use borrow.Author.Tests.{not-true, not-false}
-use borrow.Author.Rules.{rules}
 use Rattle.rulecheck.proofs.Steps.{rule_mode, rule_kind, rule_next, rule_effect, rule_sends}
 use Rattle.rulecheck.proofs.ok_rule.Goals as goal
 

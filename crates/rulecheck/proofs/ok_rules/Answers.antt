@@ -1,9 +1,7 @@
-use mathlib.Core.Path.{◌≡◌, refl, sym, ◌∙◌}
-use Prim.Native.Nat.{◌≤◌, ◌-◌}
-use lib.ListN.{length, drop}
+use mathlib.Core.Path.{refl, sym, ◌∙◌}
 use borrow.Author.Rules.{rules}
-use Rattle.laws.specs.Walks.{walk_end, walk_wrong, walk_unordered, walk_right, yes_said, no_said}
-use Rattle.rulecheck.specs.Check.{itself, row_key, ok_row, ok_rows}
+use Rattle.laws.specs.Walks.{walk_end, walk_wrong, walk_unordered, walk_right}
+use Rattle.rulecheck.specs.Check.{itself, row_key, ok_row}
 use Rattle.rulecheck.proofs.ok_rules.Goals as goal
 
 pub loop-i-init : goal.loop-i-init

@@ -1,6 +1,5 @@
 -- Each test that fails makes the definition false; where all hold, the value decides.
 use mathlib.Core.Path.{◌∙◌}
-use borrow.Author.Rules.{rules}
 use Rattle.rulecheck.proofs.Steps.{send_receiver, send_soon, send_late, send_kind, send_value}
 use Rattle.rulecheck.proofs.ok_send.Goals as goal
 

@@ -1,7 +1,6 @@
 -- Of the two sends in the row the count takes none, the first, or both.
 use mathlib.Core.Path.{sym, ◌∙◌}
 use borrow.Author.Tests.{not-true, not-false}
-use borrow.Author.Rules.{rules}
 use Rattle.rulecheck.proofs.Steps.{sends_none, sends_wrong, sends_one, sends_two}
 use Rattle.rulecheck.proofs.ok_sends.Goals as goal
 

@@ -1,5 +1,4 @@
 -- Case by case of the value.
-use borrow.Author.Rules.{rules}
 use Rattle.rulecheck.proofs.ok_value.Goals as goal
 
 pub returns-in-Fixed : goal.returns-in-Fixed

@@ -1,6 +1,5 @@
 -- Each test that fails makes the definition false; where all hold, the value of the second send decides.
 use mathlib.Core.Path.{sym, ◌∙◌}
-use borrow.Author.Rules.{rules}
 use borrow.Author.Tests.{not-true, not-false}
 use Rattle.rulecheck.proofs.Steps.{shape_effect, shape_sends, shape_first, shape_second}
 use Rattle.rulecheck.proofs.shaped.Goals as goal

@@ -2,7 +2,6 @@
 use Prim.Native.Nat.{◌+◌, ◌-◌}
 use native.Mathlib.Omega.{arith}
 use Rattle.run.proofs.Turning.{part_length, turned}
-use borrow.Author.Rules.{rules}
 use Rattle.run.proofs.make.Goals as goal
 
 pub make-answer-requires : goal.make-answer-requires

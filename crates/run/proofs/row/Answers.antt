@@ -1,5 +1,4 @@
 -- `run::row` meets its contract: each answer's number and values stand in the row.
-use borrow.Author.Rules.{rules}
 use Rattle.run.proofs.row.Goals as goal
 
 pub returns-in-Refused : goal.returns-in-Refused

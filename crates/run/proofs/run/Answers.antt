@@ -2,7 +2,6 @@
 -- calls made on it are the model's rehearsal.
 use mathlib.Core.Path.{sym, ◌∙◌}
 use Rattle.run.proofs.Starting.{run_refused, run_done}
-use borrow.Author.Rules.{rules}
 use Rattle.run.proofs.run.Goals as goal
 
 pub returns-then-is_refusal : goal.returns-then-is_refusal

@@ -1,7 +1,6 @@
 -- `run::turn_at` meets its contract: each test stops where the definition does, and the call that is read is the one that is made.
 use mathlib.Core.Path.{sym}
 use Rattle.run.specs.Made.{turn_none, turn_short, turn_end, turn_read}
-use borrow.Author.Rules.{rules}
 use Rattle.run.proofs.turn_at.Goals as goal
 
 pub returns-then-rows-eq0 : goal.returns-then-rows-eq0

@@ -1,10 +1,7 @@
-use mathlib.Core.Path.{◌≡◌, refl, sym, ◌∙◌}
-use Prim.Native.Nat.{◌-◌}
+use mathlib.Core.Path.{refl, sym, ◌∙◌}
 use native.Mathlib.Omega.{arith}
-use lib.ListN.{length}
 use Rattle.run.proofs.Reading.{makes}
-use Rattle.run.proofs.Running.{Running, running_first, running_stop, running_again}
-use borrow.Author.Rules.{rules}
+use Rattle.run.proofs.Running.{running_first, running_stop, running_again}
 use Rattle.run.proofs.work.Goals as goal
 
 pub loop-call-init : goal.loop-call-init

@@ -1,13 +1,10 @@
 -- `run::work` meets its contract. The loop's invariant: the memory, the rows and the record are those of the calls made so far, and with the calls that
 -- are still made from here on these are all; the lists keep their lengths. The measure is the number of rows that are left.
-use mathlib.Core.Path.{◌≡◌, refl, sym, ◌∙◌}
+use mathlib.Core.Path.{◌≡◌}
 use Prim.Native.Nat.{◌-◌}
-use native.Mathlib.Omega.{arith}
 use lib.ListN.{length}
 use Rattle.memory.specs.Memory.{held}
-use Rattle.run.proofs.Reading.{makes}
-use Rattle.run.proofs.Running.{Running, running_first, running_stop, running_again}
-use borrow.Author.Rules.{rules}
+use Rattle.run.proofs.Running.{Running}
 use Rattle.run.proofs.work.Given as goal
 
 abbrev pub invariant-loop-call : goal.invariant-loop-call

@@ -1,6 +1,5 @@
 -- The tests of the definition, one after another.
 use borrow.Author.Tests.{eq-eqb, ne_eqb}
-use borrow.Author.Rules.{rules}
 use Rattle.memory.specs.Promise.{sized_for}
 use Rattle.start.proofs.is_sized.Goals as goal
 

@@ -1,10 +1,8 @@
-use mathlib.Core.Path.{◌≡◌, refl, ap, ◌∙◌}
-use mathlib.Core.List.{[]}
-use Prim.Native.Nat.{ℕ, ◌≤◌, ◌<◌, ◌-◌}
+use mathlib.Core.Path.{refl, ap, ◌∙◌}
 use native.Mathlib.Omega.{arith}
-use lib.ListN.{length, get_or, length-set}
+use lib.ListN.{length-set}
 use borrow.Author.Rules.{rules}
-use Rattle.start.specs.First.{first_row, first_rows}
+use Rattle.start.specs.First.{first_row}
 use Rattle.start.proofs.Placing.{placed_more, rest_same}
 use Rattle.start.proofs.place.Goals as goal
 

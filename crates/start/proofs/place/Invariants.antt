@@ -1,12 +1,9 @@
 -- The loop's invariant: the first rows of the processes passed are put down, and no other row has changed. The measure is what is left of the count.
-use mathlib.Core.Path.{◌≡◌, refl, ap, ◌∙◌}
+use mathlib.Core.Path.{◌≡◌}
 use mathlib.Core.List.{[]}
 use Prim.Native.Nat.{ℕ, ◌≤◌, ◌<◌, ◌-◌}
-use native.Mathlib.Omega.{arith}
-use lib.ListN.{length, get_or, length-set}
-use borrow.Author.Rules.{rules}
-use Rattle.start.specs.First.{first_row, first_rows}
-use Rattle.start.proofs.Placing.{placed_more, rest_same}
+use lib.ListN.{length, get_or}
+use Rattle.start.specs.First.{first_rows}
 use Rattle.start.proofs.place.Given as goal
 
 abbrev pub invariant-loop-p : goal.invariant-loop-p

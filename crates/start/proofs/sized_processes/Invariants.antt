@@ -1,14 +1,10 @@
 -- The loop's invariant: the processes passed have their rows. The measure is what is left of the count.
-use mathlib.Core.Path.{◌≡◌, sym, ◌∙◌}
+use mathlib.Core.Path.{◌≡◌}
 use mathlib.Core.Bool.{true}
 use mathlib.Core.List.{[]}
 use Prim.Native.Nat.{ℕ, ◌≤◌, ◌<◌, ◌-◌}
-use native.Mathlib.Omega.{arith}
 use lib.ListN.{get_or}
-use borrow.Author.Tests.{not-true, not-false}
-use borrow.Author.Rules.{rules}
 use Rattle.memory.specs.Promise.{sized_rows}
-use Rattle.start.proofs.Sizes.{one_fails, all_pass, one_more}
 use Rattle.start.proofs.sized_processes.Given as goal
 
 abbrev pub invariant-loop-p : goal.invariant-loop-p

@@ -2,7 +2,6 @@
 use mathlib.Core.Path.{sym, ◌∙◌}
 use native.Mathlib.Omega.{arith}
 use borrow.Author.Tests.{not-true, not-false}
-use borrow.Author.Rules.{rules}
 use Rattle.rule.specs.Laws.{lawful_model_lem}
 use Rattle.start.proofs.Sizes.{own_long}
 use Rattle.start.proofs.First.{bad_model, bad_lists, begun}

@@ -1,7 +1,7 @@
-use Prim.Native.Nat.{◌≤◌, ◌-◌, min}
+use Prim.Native.Nat.{min}
 use mathlib.Core.Path.{◌≡◌, ap₂, ◌∙◌}
 use native.Mathlib.Nat.{sub-zero}
-use Rattle.advance.specs.Bound.{unread_at, least_of, least_none, least_more}
+use Rattle.advance.specs.Bound.{unread_at, least_none, least_more}
 use borrow.Author.Rules.{rules}
 use native.Mathlib.Omega.{arith}
 use Rattle.advance.proofs.bound.least_unread.Goals as goal
@@ -26,8 +26,7 @@ unread-requires c = record { own_rows = c.requires.histories.at _ (omega arith);
 
 pub loop-i-preserved : goal.loop-i-preserved
 loop-i-preserved c =
-    let o = c.loop-i in
-    (
+    let o = c.loop-i in (
       omega arith,
       c.lesser-least.ensures ∙ ap₂ min c.unread.ensures o.invariant.1 ∙ least_more (unread_at c.args.own.now c.args.inputs.now)
           o.i c.args.processes c.loop-i-test.true o.invariant.0,

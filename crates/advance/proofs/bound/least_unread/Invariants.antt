@@ -1,10 +1,7 @@
 -- The loop's invariant: `least` is the least unread time of the processes from i on.
-use Prim.Native.Nat.{◌≤◌, ◌-◌, min}
-use mathlib.Core.Path.{◌≡◌, ap₂, ◌∙◌}
-use native.Mathlib.Nat.{sub-zero}
-use Rattle.advance.specs.Bound.{unread_at, least_of, least_none, least_more}
-use borrow.Author.Rules.{rules}
-use native.Mathlib.Omega.{arith}
+use Prim.Native.Nat.{◌≤◌, ◌-◌}
+use mathlib.Core.Path.{◌≡◌}
+use Rattle.advance.specs.Bound.{unread_at, least_of}
 use Rattle.advance.proofs.bound.least_unread.Given as goal
 
 abbrev pub invariant-loop-i : goal.invariant-loop-i

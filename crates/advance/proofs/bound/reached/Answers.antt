@@ -1,6 +1,5 @@
 -- The horizon, step by step.
 use Rattle.advance.specs.Bound.{reached_by}
-use borrow.Author.Rules.{rules}
 use Rattle.advance.proofs.bound.reached.Goals as goal
 
 pub returns : goal.returns

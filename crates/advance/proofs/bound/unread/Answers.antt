@@ -1,11 +1,10 @@
 -- The unread time after the last event, in the input rows.
 use Rattle.advance.specs.Bound.{unread_of}
-use borrow.Author.Rules.{rules}
 use native.Mathlib.Omega.{arith}
 use Rattle.advance.proofs.bound.unread.Goals as goal
 
 pub unread-requires : goal.unread-requires
-unread-requires c = 
+unread-requires c =
     rw c.size-2.ensures (record { n_in_bounds = omega (arith, c.requires.input_rows.long, c.requires.input_rows.few); n_value = c.requires.input_rows.ordered })
 
 pub returns : goal.returns
