@@ -1,28 +1,52 @@
 // The program: one rehearsal, from standard input to standard output. It only moves bytes: what is printed is settled by `rehearsal`, one turn after
-// another, so that output of any length goes out in parts. Of this loop `all-printed` (crate `rehearsal`, specs/Whole.antt) says what it prints.
-ghost use Rattle.std.specs.Prelude.{◌≤◌, length};
-ghost use Rattle.rehearsal.specs.Moving.{end_of, GoesOn};
+// another, so that output of any length goes out in parts. Of this loop `all_printed` (crate `rehearsal`, specs/Whole.antt) says what it prints.
+#![tactic(auto)]
+
+ghost use Rattle.std.specs.Prelude.{◌≡◌, ◌≤◌, false, length, take, IfOk, OnOk, OnErr};
+ghost use Rattle.std.specs.Io.KnownBytes.{Appends};
+ghost use Rattle.std.specs.Counts.{IsPrefixLen};
+ghost use Rattle.rehearsal.specs.Moving.{end_of, next_of, GoesOn};
+ghost use Rattle.rehearsal.specs.Promise.{is_refusal};
 
 use definition::lent::{Own, Queue, Row, Rules};
-use libc::{STDIN_FILENO, STDOUT_FILENO};
 use rehearsal::Progress;
+use std::io;
+use std::io::{Read, Write};
 
-// Writes what a turn printed, and gives the place of the next call; or the end of the input, where the turn was refused or nothing can be written.
-fn put(turn: Progress, text: &[u8], input: usize) -> usize
+// Reads until no room is left or the input ends, and gives how many bytes stand at the start.
+fn read(input: &mut impl Read, bytes: &mut [u8]) -> io::Result<usize>
+    ensures { IfOk result (λ count. IsPrefixLen count bytes.new) }
+{
+    let mut count = 0;
+    while count < bytes.len() {
+        let more = input.read(&mut bytes[count..])?;
+        if more == 0 {
+            break;
+        }
+        count += more;
+    }
+    Ok(count)
+}
+
+// Writes what a turn printed, and gives the place of the next call; or the end of the input, where the turn was refused. It is an error where nothing
+// can be written.
+fn put<W: Write>(out: &mut W, turn: Progress, text: &[u8], input: usize) -> io::Result<usize>
     requires { end_of turn ≤ length text.now }
-    ensures { GoesOn turn input result }
+    ensures goes_on { IfOk result (λ next. GoesOn turn input next) }
+    ensures onward { IfOk result (λ next. next ≡ next_of turn input) }
+    ensures written { OnOk result (Appends (W.contents out.old) (W.contents out.new) (take (end_of turn) text.now)) }
+    ensures failed { OnErr result (is_refusal turn ≡ false) }
 {
     let Progress::Printed { end, next } = turn else {
-        return input;
+        return Ok(input);
     };
-    if !io::write_all(STDOUT_FILENO, &text[..end]) {
-        return input;
-    }
-    next
+    out.write_all(&text[..end])?;
+    Ok(next)
 }
 
 // All turns.
-fn rehearse(
+fn rehearse<W: Write>(
+    out: &mut W,
     bytes: &[u8],
     model: &mut [Rules],
     inputs: &mut [Queue],
@@ -30,18 +54,19 @@ fn rehearse(
     transit: &mut [Row],
     own: &mut [Own],
     text: &mut [u8],
-) {
+) -> io::Result<()> {
     let first = rehearsal::begin(bytes, model, inputs, outputs, transit, own, text);
-    let mut at = put(first, text, bytes.len());
+    let mut at = put(out, first, text, bytes.len())?;
     while at < bytes.len() {
         let turn = rehearsal::step(bytes, at, model, inputs, outputs, transit, own, text);
-        at = put(turn, text, bytes.len());
+        at = put(out, turn, text, bytes.len())?;
     }
+    Ok(())
 }
 
-fn main() {
+fn main(rt: HostRuntime) -> io::Result<()> {
     let mut input = [0u8; 65537];
-    let length = io::read_full(STDIN_FILENO, &mut input);
+    let length = read(&mut rt.stdin(), &mut input)?;
     let mut model = [[[0u32; 16]; 65]; 8];
     let mut inputs = [[[0u32; 8]; 64]; 8];
     let mut outputs = [[[0u32; 8]; 64]; 8];
@@ -49,6 +74,7 @@ fn main() {
     let mut own = [[[0u32; 8]; 33]; 9];
     let mut text = [0u8; rehearsal::LONGEST];
     rehearse(
+        &mut rt.stdout(),
         &input[..length],
         &mut model,
         &mut inputs,
@@ -56,5 +82,5 @@ fn main() {
         &mut transit,
         &mut own,
         &mut text,
-    );
+    )
 }

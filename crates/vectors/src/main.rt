@@ -1,13 +1,18 @@
 // A test: works every run file of data/ through the turns of `rehearsal` and compares what is printed, byte for byte, with what must be. `names`
 // lists the run files, a name to a line; NAME.run is the run file, NAME.out what it must print, and NAME.txt says why. The first that differs is
 // named, and ends the test.
-ghost use Rattle.std.specs.Prelude.{◌≤◌, length};
-ghost use Rattle.io.specs.Counts.{IsPrefixLen};
+#![tactic(auto)]
+
+ghost use Rattle.std.specs.Prelude.{◌≤◌, length, IfOk};
+ghost use Rattle.std.specs.Counts.{IsPrefixLen};
 ghost use Rattle.rehearsal.specs.Moving.{Moves, next_of};
 
 use definition::lent::{Own, Queue, Row, Rules};
-use libc::STDOUT_FILENO;
 use rehearsal::Progress;
+use std::fs::File;
+use std::io::Read;
+use std::rt::Files;
+use std::{io, str};
 
 // A wanted text has fewer bytes: one that fills so many may go on, and counts as different.
 const WANTED_LENGTH: usize = 16384;
@@ -38,21 +43,28 @@ fn copy(bytes: &[u8], to: &mut [u8], place: usize) -> usize
     at
 }
 
-// The file of this name and ending, opened for reading; below 0 where it cannot be.
-fn open(name: &[u8], ending: &[u8]) -> i32 {
+// The file of this name and ending, opened for reading; none where it cannot be.
+fn open<R: Files>(rt: &R, name: &[u8], ending: &[u8]) -> Option<R::File> {
     let mut path = [0u8; 256];
     let middle = copy(name, &mut path, 0);
     let end = copy(ending, &mut path, middle);
-    os::open_read(&path[..end])
+    let path = str::from_utf8(&path[..end]).ok()?;
+    File::open(rt, path).ok()
 }
 
-// Reads an open file and closes it: how many bytes it has.
-fn read(file: i32, bytes: &mut [u8]) -> usize
-    ensures { IsPrefixLen result bytes.new }
+// Reads an open file until no room is left or it ends, and closes it: how many bytes it has.
+fn read(mut file: impl Read + Drop, bytes: &mut [u8]) -> io::Result<usize>
+    ensures { IfOk result (λ size. IsPrefixLen size bytes.new) }
 {
-    let length = io::read_full(file, bytes);
-    libc::close(file);
-    length
+    let mut size = 0;
+    while size < bytes.len() {
+        let more = file.read(&mut bytes[size..])?;
+        if more == 0 {
+            break;
+        }
+        size += more;
+    }
+    Ok(size)
 }
 
 // A difference ends an input of this length.
@@ -81,7 +93,7 @@ fn compare(turn: Progress, text: &[u8], wanted: &[u8], used: usize, input: usize
         return differs(input);
     }
     let after = used + end;
-    if !check::same(&text[..end], &wanted[used..after]) {
+    if text[..end] != wanted[used..after] {
         return differs(input);
     }
     Compared {
@@ -138,28 +150,26 @@ fn rehearse(bytes: &[u8], wanted: &[u8]) -> bool {
 }
 
 // Says what is wrong with a run file.
-fn fail(name: &[u8], fault: &[u8]) {
-    io::write_all(STDOUT_FILENO, name);
-    io::write_all(STDOUT_FILENO, fault);
+fn fail(rt: &impl Print, name: &[u8], fault: &[u8]) -> io::Result<()> {
+    rt.write_all(name)?;
+    rt.write_all(fault)
 }
 
 // The run file of this name prints what it must; one that does not, or that cannot be read, is named.
-fn passes(name: &[u8]) -> bool {
-    let run = open(name, b".run");
-    let out = open(name, b".out");
-    if run < 0 || out < 0 {
-        fail(name, b" cannot be read\n");
-        return false;
-    }
+fn passes(rt: &(impl Files + Print), name: &[u8]) -> io::Result<bool> {
+    let (Some(run), Some(out)) = (open(rt, name, b".run"), open(rt, name, b".out")) else {
+        fail(rt, name, b" cannot be read\n")?;
+        return Ok(false);
+    };
     let mut input = [0u8; 65537];
-    let length = read(run, &mut input);
+    let length = read(run, &mut input)?;
     let mut wanted = [0u8; WANTED_LENGTH];
-    let size = read(out, &mut wanted);
+    let size = read(out, &mut wanted)?;
     if size == WANTED_LENGTH || !rehearse(&input[..length], &wanted[..size]) {
-        fail(name, b" differs\n");
-        return false;
+        fail(rt, name, b" differs\n")?;
+        return Ok(false);
     }
-    true
+    Ok(true)
 }
 
 // Where the line that begins at a place ends.
@@ -178,13 +188,13 @@ fn line_end(names: &[u8], from: usize) -> usize
 }
 
 // All run files, counted; the first that does not pass ends the test.
-fn work(names: &[u8]) {
+fn work(rt: &(impl Files + Print), names: &[u8]) -> io::Result<()> {
     let mut count: u64 = 0;
     let mut from: usize = 0;
     while from < names.len() {
         let end = line_end(names, from);
-        if !passes(&names[from..end]) {
-            return;
+        if !passes(rt, &names[from..end])? {
+            return Ok(());
         }
         count += 1;
         if end == names.len() {
@@ -192,17 +202,14 @@ fn work(names: &[u8]) {
         }
         from = end + 1;
     }
-    io::print_decimal(STDOUT_FILENO, count);
-    io::write_all(STDOUT_FILENO, b" run files as they must be\n");
+    println!(rt; "{count} run files as they must be")
 }
 
-fn main() {
-    let file = os::open_read(b"names");
-    if file < 0 {
-        fail(b"names", b" cannot be read\n");
-        return;
-    }
+fn main(rt: HostRuntime) -> io::Result<()> {
+    let Ok(file) = File::open(&rt, "names") else {
+        return fail(&rt, b"names", b" cannot be read\n");
+    };
     let mut names = [0u8; 4096];
-    let length = read(file, &mut names);
-    work(&names[..length]);
+    let length = read(file, &mut names)?;
+    work(&rt, &names[..length])
 }
