@@ -1,13 +1,14 @@
 // The changes that a statement makes of a lawful memory. A place outside the lists is a fault of the table, and is said.
-ghost use Rattle.std.specs.Prelude.{◌≤◌};
+ghost use Rattle.std.specs.Prelude.{◌≤◌, IfOk};
 
 use crate::say;
 use crate::statement::{EVENTS, MAIL, MAILS, MODEL, PROCESS, RULE, RULES, Statement, WHOLE};
 use definition::lent::{Own, Queue, Row, RuleRow, Rules};
 use memory::size;
+use std::io;
 
 // Which word of which row, and its other value.
-#[derive(Drop)]
+#[derive(Clone, Copy)]
 pub struct Change {
     pub verb: u64,
     pub at: usize,
@@ -43,14 +44,14 @@ pub fn change_of(statement: Statement) -> Change {
 }
 
 // A number up to a limit. Another is a fault of the table, and 0 stands for it.
-pub fn at_most(number: usize, limit: usize) -> usize
-    ensures { result ≤ limit }
+pub fn at_most(rt: &impl Print, number: usize, limit: usize) -> io::Result<usize>
+    ensures { IfOk result (λ place. place ≤ limit) }
 {
     if number <= limit {
-        return number;
+        return Ok(number);
     }
-    say::bad();
-    0
+    say::bad(rt)?;
+    Ok(0)
 }
 
 // The row with a word one more.
@@ -116,22 +117,22 @@ fn is_of_all(verb: u64) -> bool {
 }
 
 // A word of a list of rows, or all rows from one on; printed where it has no value.
-fn put(rows: &mut [Row], change: Change) {
+fn put(rt: &impl Print, rows: &mut [Row], change: Change) -> io::Result<()> {
     let row = change.row;
-    let word = at_most(change.word, 7);
+    let word = at_most(rt, change.word, 7)?;
     if rows.len() <= row {
-        say::bad();
-        return;
+        say::bad(rt)?;
+        return Ok(());
     }
     if is_of_all(change.verb) {
         fill(rows, row, word);
-        return;
+        return Ok(());
     }
     if change.is_whole {
         rows[row][word] = change.value;
-        return;
+        return Ok(());
     }
-    say::then(rows[row][word]);
+    say::then(rt, rows[row][word])
 }
 
 // Which of the lists a verb is of.
@@ -145,45 +146,48 @@ const OWN: u64 = 4;
 
 const FIRST_ROWS: u64 = 5;
 
-pub fn transit(rows: &mut [Row; 128], change: Change) {
+pub fn transit(rt: &impl Print, rows: &mut [Row; 128], change: Change) -> io::Result<()> {
     if change.verb / 2 == TRANSIT {
-        put(rows, change);
+        put(rt, rows, change)?;
     }
+    Ok(())
 }
 
-pub fn queue(rows: &mut [Queue; 8], list: u64, change: Change) {
+pub fn queue(rt: &impl Print, rows: &mut [Queue; 8], list: u64, change: Change) -> io::Result<()> {
     if change.verb / 2 == list {
-        let at = at_most(change.at, 7);
-        put(&mut rows[at], change);
+        let at = at_most(rt, change.at, 7)?;
+        put(rt, &mut rows[at], change)?;
     }
+    Ok(())
 }
 
-pub fn own(rows: &mut [Own; 9], change: Change) {
+pub fn own(rt: &impl Print, rows: &mut [Own; 9], change: Change) -> io::Result<()> {
     let list = change.verb / 2;
     if list < OWN {
-        return;
+        return Ok(());
     }
     if FIRST_ROWS < list {
-        return;
+        return Ok(());
     }
-    let at = at_most(change.at, 8);
-    put(&mut rows[at], change);
+    let at = at_most(rt, change.at, 8)?;
+    put(rt, &mut rows[at], change)
 }
 
-pub fn model(rows: &mut [Rules; 8], change: Change) {
+pub fn model(rt: &impl Print, rows: &mut [Rules; 8], change: Change) -> io::Result<()> {
     let verb = change.verb;
     if verb < RULE {
-        return;
+        return Ok(());
     }
     if RULES < verb {
-        return;
+        return Ok(());
     }
-    let at = at_most(change.at, 7);
+    let at = at_most(rt, change.at, 7)?;
     if verb == RULES {
         fill_rules(&mut rows[at]);
-        return;
+        return Ok(());
     }
-    let row = at_most(change.row, 64);
-    let word = at_most(change.word, 15);
+    let row = at_most(rt, change.row, 64)?;
+    let word = at_most(rt, change.word, 15)?;
     rows[at][row][word] = change.value;
+    Ok(())
 }

@@ -11,6 +11,7 @@ use definition::lent::Rules;
 use definition::{Stand, Summary};
 use host::{Outcome, Stepped};
 use memory::size;
+use std::io;
 
 // The step of a mode and tally, lent by `&mut`.
 fn stepped(model: &[Rules], process: u32, stand: Stand, kind: u32, value: u32) -> Outcome
@@ -29,15 +30,15 @@ fn lowest_of(summaries: [Summary; 3], count: usize) -> u32
     host::lowest_unread(&summaries[..count])
 }
 
-fn answer(answer: Stepped) {
+fn answer(rt: &impl Print, answer: Stepped) -> io::Result<()> {
     match answer {
-        Stepped::Done => say::ok(),
-        Stepped::Refused(number) => say::refused(number),
+        Stepped::Done => say::ok(rt),
+        Stepped::Refused(number) => say::refused(rt, number),
     }
 }
 
 // The step of a process in a mode, by a message of a kind and of value 1. Its tally is the largest.
-fn step(model: &[Rules], statement: Statement) {
+fn step(rt: &impl Print, model: &[Rules], statement: Statement) -> io::Result<()> {
     let stand = Stand {
         mode: statement.b,
         tally: 4294967295,
@@ -45,8 +46,8 @@ fn step(model: &[Rules], statement: Statement) {
     let outcome = stepped(model, statement.a, stand, statement.c, 1);
     let done = outcome.answer;
     let after = outcome.stand;
-    answer(done);
-    say::stands(after);
+    answer(rt, done)?;
+    say::stands(rt, after)
 }
 
 fn summary(unread: u32) -> Summary {
@@ -58,23 +59,24 @@ fn summary(unread: u32) -> Summary {
 }
 
 // The lowest of the first so many of three unread times.
-fn lowest(statement: Statement) {
-    let count = at_most(size(statement.a), 3);
+fn lowest(rt: &impl Print, statement: Statement) -> io::Result<()> {
+    let count = at_most(rt, size(statement.a), 3)?;
     let summaries = [
         summary(statement.b),
         summary(statement.c),
         summary(statement.d),
     ];
-    say::number(lowest_of(summaries, count));
+    say::number(rt, lowest_of(summaries, count))
 }
 
 // The host's call that a statement says, if it says one.
-pub fn call(model: &[Rules; 8], statement: Statement) {
+pub fn call(rt: &impl Print, model: &[Rules; 8], statement: Statement) -> io::Result<()> {
     let verb = statement.verb;
     if verb == STEP {
-        step(model, statement);
+        step(rt, model, statement)?;
     }
     if verb == LOWEST {
-        lowest(statement);
+        lowest(rt, statement)?;
     }
+    Ok(())
 }

@@ -3,9 +3,10 @@
 use crate::say;
 use crate::words::{BAR, LETTER, SPACE, after_line, pass, word_after};
 use crate::work::work;
+use std::io;
 
 // Where the statements of the lines `First` and `Each` begin.
-#[derive(Drop)]
+#[derive(Clone, Copy)]
 struct Marks {
     first: usize,
     each: usize,
@@ -18,67 +19,70 @@ fn is_over(text: &[u8], at: usize) -> bool {
 }
 
 // The calls of the line `Each` on the state whose statements begin at a place.
-fn calls(text: &[u8], first: usize, each: usize, line: usize) {
+fn calls(rt: &impl Print, text: &[u8], first: usize, each: usize, line: usize) -> io::Result<()> {
     let mut call = each;
     while call < text.len() {
-        let next = work(text, first, line, call);
+        let next = work(rt, text, first, line, call)?;
         if next <= call {
-            return;
+            return Ok(());
         }
         if is_over(text, next) {
-            return;
+            return Ok(());
         }
         call = next;
     }
+    Ok(())
 }
 
 // A line with no bar.
-fn remark(text: &[u8], at: usize, end: usize, byte: u8) {
+fn remark(rt: &impl Print, text: &[u8], at: usize, end: usize, byte: u8) -> io::Result<()> {
     if byte == b'=' {
-        say::line(text, at, end);
+        say::line(rt, text, at, end)?;
     }
+    Ok(())
 }
 
 // A state by the places where its name begins and ends.
-fn state(text: &[u8], at: usize, name: usize, marks: Marks) {
-    say::name(text, at, name);
-    calls(text, marks.first, marks.each, name);
-    say::end_line();
+fn state(rt: &impl Print, text: &[u8], at: usize, name: usize, marks: Marks) -> io::Result<()> {
+    say::name(rt, text, at, name)?;
+    calls(rt, text, marks.first, marks.each, name)?;
+    say::end_line(rt)
 }
 
 // One line and its first byte. The statements begin where the name ends.
-fn line(text: &[u8], at: usize, byte: u8, marks: Marks) -> Marks {
+fn line(rt: &impl Print, text: &[u8], at: usize, byte: u8, marks: Marks) -> io::Result<Marks> {
     let name = pass(text, at, LETTER, SPACE);
     if pass(text, name, BAR, BAR) == name {
-        remark(text, at, name, byte);
-        return marks;
+        remark(rt, text, at, name, byte)?;
+        return Ok(marks);
     }
     if byte == b'F' {
-        return Marks {
+        return Ok(Marks {
             first: name,
             each: marks.each,
-        };
+        });
     }
     if byte == b'E' {
-        return Marks {
+        return Ok(Marks {
             first: marks.first,
             each: name,
-        };
+        });
     }
-    state(text, at, name, marks);
-    marks
+    state(rt, text, at, name, marks)?;
+    Ok(marks)
 }
 
 // Each line.
-pub fn all(text: &[u8]) {
+pub fn all(rt: &impl Print, text: &[u8]) -> io::Result<()> {
     let mut marks = Marks { first: 0, each: 0 };
     let mut at: usize = 0;
     while at < text.len() {
-        marks = line(text, at, text[at], marks);
+        marks = line(rt, text, at, text[at], marks)?;
         let next = after_line(text, at);
         if next <= at {
-            return;
+            return Ok(());
         }
         at = next;
     }
+    Ok(())
 }

@@ -51,5 +51,5 @@ pub fn own(a: &[Own; 9], b: &[Own; 9]) -> bool {
 }
 
 pub fn buffer(a: &[u8; 20], b: &[u8; 20]) -> bool {
-    check::same(a, b)
+    a == b
 }

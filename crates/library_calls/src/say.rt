@@ -2,80 +2,73 @@
 use crate::statement::BYTES;
 use crate::words::NONE;
 use definition::{Answer, Stand};
+use std::io;
 
 // A part of the table, from one place to another.
-fn part(text: &[u8], from: usize, end: usize) {
+fn part(rt: &impl Print, text: &[u8], from: usize, end: usize) -> io::Result<()> {
     if end < from {
-        return;
+        return Ok(());
     }
     if text.len() < end {
-        return;
+        return Ok(());
     }
-    io::write_all(1, &text[from..end]);
+    rt.write_all(&text[from..end])
 }
 
 // A line, without the `= ` before it.
-pub fn line(text: &[u8], from: usize, end: usize) {
-    part(text, std::num::wrapping_add_usize(from, 2), end);
-    end_line();
+pub fn line(rt: &impl Print, text: &[u8], from: usize, end: usize) -> io::Result<()> {
+    part(rt, text, std::num::wrapping_add_usize(from, 2), end)?;
+    end_line(rt)
 }
 
 // A name, without the space after it.
-pub fn name(text: &[u8], from: usize, end: usize) {
-    part(text, from, std::num::wrapping_sub_usize(end, 1));
-    io::write_all(1, b":");
+pub fn name(rt: &impl Print, text: &[u8], from: usize, end: usize) -> io::Result<()> {
+    part(rt, text, from, std::num::wrapping_sub_usize(end, 1))?;
+    rt.print(":")
 }
 
-pub fn end_line() {
-    io::write_all(1, b"\n");
+pub fn end_line(rt: &impl Print) -> io::Result<()> {
+    rt.print("\n")
 }
 
 // The table says what cannot be done.
-pub fn bad() {
-    io::write_all(1, b" bad table");
+pub fn bad(rt: &impl Print) -> io::Result<()> {
+    rt.print(" bad table")
 }
 
 // A statement that cannot be read.
-pub fn fault(verb: u64) {
+pub fn fault(rt: &impl Print, verb: u64) -> io::Result<()> {
     if verb == NONE {
-        bad();
+        bad(rt)?;
     }
+    Ok(())
 }
 
-fn wide(number: u32) -> u64 {
-    number as u64
+pub fn number(rt: &impl Print, number: u32) -> io::Result<()> {
+    print!(rt; " {number}")
 }
 
-pub fn number(number: u32) {
-    io::write_all(1, b" ");
-    io::print_decimal(1, wide(number));
+fn byte(rt: &impl Print, byte: u8) -> io::Result<()> {
+    print!(rt; " {byte}")
 }
 
-fn wide_byte(byte: u8) -> u64 {
-    byte as u64
-}
-
-fn byte(byte: u8) {
-    io::write_all(1, b" ");
-    io::print_decimal(1, wide_byte(byte));
-}
-
-pub fn then(word: u32) {
-    io::write_all(1, b", then");
-    number(word);
+pub fn then(rt: &impl Print, word: u32) -> io::Result<()> {
+    rt.print(", then")?;
+    number(rt, word)
 }
 
 // The buffer, by its verb.
-pub fn bytes(buffer: &[u8; 20], verb: u64) {
+pub fn bytes(rt: &impl Print, buffer: &[u8; 20], verb: u64) -> io::Result<()> {
     if verb != BYTES {
-        return;
+        return Ok(());
     }
-    io::write_all(1, b", bytes");
+    rt.print(", bytes")?;
     let mut i: usize = 0;
     while i < 20 {
-        byte(buffer[i]);
+        byte(rt, buffer[i])?;
         i = i + 1;
     }
+    Ok(())
 }
 
 // How a call's answer is printed: not at all, `ok` or the number, or the whole of it.
@@ -85,66 +78,75 @@ pub const SHORT: u32 = 1;
 
 pub const WHOLE: u32 = 2;
 
-pub fn ok() {
-    io::write_all(1, b" ok");
+pub fn ok(rt: &impl Print) -> io::Result<()> {
+    rt.print(" ok")
 }
 
-pub fn refused(number_of: u32) {
-    io::write_all(1, b" refused");
-    number(number_of);
+pub fn refused(rt: &impl Print, number_of: u32) -> io::Result<()> {
+    rt.print(" refused")?;
+    number(rt, number_of)
 }
 
 // A refusal that did not leave all as it was says so where it is short, and one that did where it is whole.
-fn refusal(number_of: u32, kept: bool, manner: u32) {
+fn refusal(rt: &impl Print, number_of: u32, kept: bool, manner: u32) -> io::Result<()> {
     if manner == WHOLE {
-        refused(number_of);
+        refused(rt, number_of)?;
         if kept {
-            io::write_all(1, b", as it was");
+            rt.print(", as it was")?;
         }
-        return;
+        return Ok(());
     }
-    number(number_of);
+    number(rt, number_of)?;
     if !kept {
-        io::write_all(1, b" changed");
+        rt.print(" changed")?;
     }
+    Ok(())
 }
 
 // `ok`, and the last so many of three numbers where it is whole.
-fn done(manner: u32, count: u32, first: u32, second: u32, third: u32) {
-    ok();
+fn done(
+    rt: &impl Print,
+    manner: u32,
+    count: u32,
+    first: u32,
+    second: u32,
+    third: u32,
+) -> io::Result<()> {
+    ok(rt)?;
     if manner != WHOLE {
-        return;
+        return Ok(());
     }
     if 3 <= count {
-        number(first);
+        number(rt, first)?;
     }
     if 2 <= count {
-        number(second);
-        number(third);
+        number(rt, second)?;
+        number(rt, third)?;
     }
+    Ok(())
 }
 
 // What a call answered, and whether all was left as it was.
-pub fn answer(answer: Answer, kept: bool, manner: u32) {
+pub fn answer(rt: &impl Print, answer: Answer, kept: bool, manner: u32) -> io::Result<()> {
     if manner == SILENT {
-        return;
+        return Ok(());
     }
     match answer {
-        Answer::Refused(number) => refusal(number, kept, manner),
-        Answer::Started | Answer::Injected => done(manner, 0, 0, 0, 0),
-        Answer::Delivered { undone, cancelled } => done(manner, 2, 0, undone, cancelled),
-        Answer::Executed { time, read, sent } => done(manner, 3, time, read, sent),
+        Answer::Refused(number) => refusal(rt, number, kept, manner),
+        Answer::Started | Answer::Injected => done(rt, manner, 0, 0, 0, 0),
+        Answer::Delivered { undone, cancelled } => done(rt, manner, 2, 0, undone, cancelled),
+        Answer::Executed { time, read, sent } => done(rt, manner, 3, time, read, sent),
         Answer::Advanced {
             horizon,
             entries,
             bytes,
-        } => done(manner, 3, horizon, entries, bytes),
+        } => done(rt, manner, 3, horizon, entries, bytes),
     }
 }
 
 // Where a process stands.
-pub fn stands(stand: Stand) {
-    io::write_all(1, b", then");
-    number(stand.mode);
-    number(stand.tally);
+pub fn stands(rt: &impl Print, stand: Stand) -> io::Result<()> {
+    rt.print(", then")?;
+    number(rt, stand.mode)?;
+    number(rt, stand.tally)
 }

@@ -40,7 +40,7 @@ pub const ADVANCE: u64 = 23;
 // Nothing more on the line. What cannot be read is the verb NONE.
 pub const NOTHING: u64 = 24;
 
-#[derive(Drop)]
+#[derive(Clone, Copy)]
 pub struct Statement {
     pub verb: u64,
     // Whether the last number is there.
@@ -64,7 +64,7 @@ struct Argument {
 
 // A number, "never", or the name of a field.
 fn number_of(text: &[u8], fields: usize, word: &[u8]) -> u64 {
-    if check::same(word, b"never") {
+    if word == b"never".as_slice() {
         return LARGEST;
     }
     let number = decimal(word);

@@ -81,7 +81,7 @@ pub fn find(text: &[u8], at: usize, word: &[u8]) -> u64 {
         let name = word_after(text, i, SPACE);
         let from = name.from;
         let end = name.end;
-        if check::same(&text[from..end], word) {
+        if &text[from..end] == word {
             return place;
         }
         if end <= i {
@@ -107,7 +107,7 @@ pub fn find_line(text: &[u8], word: &[u8]) -> Entry {
         let name = word_after(text, i, LETTER);
         let from = name.from;
         let end = name.end;
-        if check::same(&text[from..end], word) {
+        if &text[from..end] == word {
             return Entry { line, after: end };
         }
         line = std::num::wrapping_add_u64(line, 1);

@@ -7,12 +7,14 @@ use crate::{change, hosts, same, say, statement};
 use definition::Answer;
 use definition::lent::{Own, Queue, Row, Rules};
 use memory::size;
+use std::io;
 
 // What stands in the buffer before a call.
 const BLANK: u8 = 170;
 
 // An advance into the bytes of the buffer from one place to another.
 fn advance(
+    rt: &impl Print,
     model: &[Rules],
     inputs: &mut [Queue],
     outputs: &mut [Queue],
@@ -20,10 +22,10 @@ fn advance(
     own: &mut [Own],
     buffer: &mut [u8],
     statement: Statement,
-) -> Answer {
-    let end = at_most(size(statement.c), buffer.len());
-    let from = at_most(size(statement.b), end);
-    engine::advance(
+) -> io::Result<Answer> {
+    let end = at_most(rt, size(statement.c), buffer.len())?;
+    let from = at_most(rt, size(statement.b), end)?;
+    Ok(engine::advance(
         model,
         inputs,
         outputs,
@@ -31,11 +33,12 @@ fn advance(
         own,
         statement.a,
         &mut buffer[from..end],
-    )
+    ))
 }
 
 // The call that a statement says, if it says one.
 fn make(
+    rt: &impl Print,
     model: &[Rules; 8],
     inputs: &mut [Queue; 8],
     outputs: &mut [Queue; 8],
@@ -43,17 +46,17 @@ fn make(
     own: &mut [Own; 9],
     buffer: &mut [u8; 20],
     statement: Statement,
-) -> Answer {
+) -> io::Result<Answer> {
     let verb = statement.verb;
     let a = statement.a;
     if verb < FRESH {
-        return Answer::Started;
+        return Ok(Answer::Started);
     }
     if verb < INJECT {
-        return engine::start(model, inputs, outputs, transit, own);
+        return Ok(engine::start(model, inputs, outputs, transit, own));
     }
     if verb == INJECT {
-        return engine::inject(
+        return Ok(engine::inject(
             model,
             inputs,
             outputs,
@@ -64,18 +67,18 @@ fn make(
             statement.c,
             statement.d,
             statement.e,
-        );
+        ));
     }
     if verb == DELIVER {
-        return engine::deliver(model, inputs, outputs, transit, own, a);
+        return Ok(engine::deliver(model, inputs, outputs, transit, own, a));
     }
     if verb == EXECUTE {
-        return engine::execute(model, inputs, outputs, transit, own, a);
+        return Ok(engine::execute(model, inputs, outputs, transit, own, a));
     }
     if NOTHING <= verb {
-        return Answer::Started;
+        return Ok(Answer::Started);
     }
-    advance(model, inputs, outputs, transit, own, buffer, statement)
+    advance(rt, model, inputs, outputs, transit, own, buffer, statement)
 }
 
 // Which statement is worked, and how its answer is printed.
@@ -136,7 +139,13 @@ fn read(model: &mut [Rules; 8]) {
 }
 
 // The statements of two lines, and then the one at a third place, all on a memory of its own. Answers the place after that one.
-pub fn work(text: &[u8], first: usize, line: usize, call: usize) -> usize {
+pub fn work(
+    rt: &impl Print,
+    text: &[u8],
+    first: usize,
+    line: usize,
+    call: usize,
+) -> io::Result<usize> {
     let mut model = [[[0u32; 16]; 65]; 8];
     let mut inputs = [[[0u32; 8]; 64]; 8];
     let mut outputs = [[[0u32; 8]; 64]; 8];
@@ -150,17 +159,18 @@ pub fn work(text: &[u8], first: usize, line: usize, call: usize) -> usize {
     while manner != OVER {
         let statement = statement::read(text, at);
         let change = change_of(statement);
-        change::model(&mut model, change);
-        change::queue(&mut inputs, INPUTS, change);
-        change::queue(&mut outputs, OUTPUTS, change);
-        change::transit(&mut transit, change);
-        change::own(&mut own, change);
+        change::model(rt, &mut model, change)?;
+        change::queue(rt, &mut inputs, INPUTS, change)?;
+        change::queue(rt, &mut outputs, OUTPUTS, change)?;
+        change::transit(rt, &mut transit, change)?;
+        change::own(rt, &mut own, change)?;
         let inputs_before = inputs;
         let outputs_before = outputs;
         let transit_before = transit;
         let own_before = own;
         let buffer_before = buffer;
         let answer = make(
+            rt,
             &model,
             &mut inputs,
             &mut outputs,
@@ -168,23 +178,23 @@ pub fn work(text: &[u8], first: usize, line: usize, call: usize) -> usize {
             &mut own,
             &mut buffer,
             statement,
-        );
+        )?;
         let kept = same::queues(&inputs_before, &inputs)
             & same::queues(&outputs_before, &outputs)
             & same::transit(&transit_before, &transit)
             & same::own(&own_before, &own)
             & same::buffer(&buffer_before, &buffer);
-        say::answer(answer, kept, manner_of(statement.verb, manner));
-        hosts::call(&model, statement);
-        say::bytes(&buffer, statement.verb);
-        say::fault(statement.verb);
+        say::answer(rt, answer, kept, manner_of(statement.verb, manner))?;
+        hosts::call(rt, &model, statement)?;
+        say::bytes(rt, &buffer, statement.verb)?;
+        say::fault(rt, statement.verb)?;
         let turn = turn_after(statement, line, call, manner);
         at = turn.at;
         manner = turn.manner;
         if MOST_TURNS <= turns {
-            return at;
+            return Ok(at);
         }
         turns = turns + 1;
     }
-    at
+    Ok(at)
 }
