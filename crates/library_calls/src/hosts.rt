@@ -1,5 +1,5 @@
 // The host's calls on what it lends: the step of a process's mode and tally where they stand, and the lowest unread time over a list of summaries.
-// A function that lends them is thin and takes plain parameters, for a walk of its code proves it.
+// A function that lends them is thin and takes plain parameters.
 ghost use Rattle.std.specs.Prelude.{◌≡◌, ◌≤◌, take};
 ghost use Rattle.definition.specs.Host.{lowest_unread};
 ghost use Rattle.host.specs.Steps.{outcome};
