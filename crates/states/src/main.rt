@@ -4,6 +4,7 @@
 #![tactic(auto)]
 
 ghost use Rattle.std.specs.Prelude.{◌≤◌, ◌<◌, length, IfOk};
+ghost use Rattle.std.specs.Counts.{IsPrefixLen};
 
 use definition::lent::{Own, Queue, Row, Rules, WHOLE};
 use memory::{ENTRIES, EVENTS, HORIZON, MAILS, MODE, NEXT, OUTPUTS, RECORDED, TALLY};
@@ -32,7 +33,7 @@ fn row(a: u32, b: u32, c: u32) -> Row {
 
 // A count of bytes that these have: 0 where they have fewer.
 fn within(count: usize, bytes: &[u8]) -> usize
-    ensures { result ≤ length bytes.now }
+    ensures { IsPrefixLen result bytes.now }
 {
     if bytes.len() < count {
         return 0;
