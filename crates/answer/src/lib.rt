@@ -2,7 +2,7 @@
 #![tactic(auto)]
 
 ghost use Rattle.std.specs.Prelude.{◌≡◌};
-ghost use Rattle.definition.specs.Model.{find as firstRule, setup};
+ghost use Rattle.definition.specs.Model.{find as first_rule, setup};
 ghost use Rattle.rule.specs.Rows.{model_of, stand_after};
 ghost use Rattle.answer.specs.Search.{found_for};
 
@@ -31,7 +31,7 @@ pub fn find(model: &[Rules], process: usize, mode: u32, kind: u32) -> Found
 
 // Where a process stands after one message. With no rule for it nothing changes.
 pub fn apply(model: &[Rules], process: usize, stand: Stand, kind: u32, value: u32) -> Stand
-    ensures { result ≡ stand_after (firstRule (setup (model_of model.now) process).rules stand.mode kind) stand value }
+    ensures { result ≡ stand_after (first_rule (setup (model_of model.now) process).rules stand.mode kind) stand value }
 {
     let found = find(model, process, stand.mode, kind);
     match found {

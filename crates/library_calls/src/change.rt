@@ -1,5 +1,5 @@
 // The changes that a statement makes of a lawful memory. A place outside the lists is a fault of the table, and is said.
-ghost use Rattle.std.specs.Prelude.{◌≤◌, IfOk};
+ghost use Rattle.std.specs.Prelude.{◌≤◌, IfOk, OnErr};
 
 use crate::say;
 use crate::statement::{EVENTS, MAIL, MAILS, MODEL, PROCESS, RULE, RULES, Statement, WHOLE};
@@ -45,7 +45,8 @@ pub fn change_of(statement: Statement) -> Change {
 
 // A number up to a limit. Another is a fault of the table, and 0 stands for it.
 pub fn at_most(rt: &impl Print, number: usize, limit: usize) -> io::Result<usize>
-    ensures { IfOk result (λ place. place ≤ limit) }
+    ensures within { IfOk result (λ place. place ≤ limit) }
+    ensures failed { OnErr result (limit < number) }
 {
     if number <= limit {
         return Ok(number);
