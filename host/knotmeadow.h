@@ -1,5 +1,5 @@
 /* The rehearsal engine for hosts in C. The functions are those of the crate knotmeadow; crates/knotmeadow/src/lib.rt has their contracts, which are
-   proved. Link target/staticlib/libknotmeadow.a, which `rt staticlib knotmeadow` writes. x86-64 only.
+   proved. Link crates/knotmeadow/out/libknotmeadow.a, which `rt lib` in crates/knotmeadow writes. x86-64 only.
 
    A result is document 01's number, 0 for none. A refusal writes nothing; `place`, where a function has it, is part of the answer: a fault
    in bytes is a number and its place.

@@ -1,5 +1,5 @@
 // The changes that a statement makes of a lawful memory. A place outside the lists is a fault of the table, and is said.
-ghost use Rattle.std.specs.Prelude.{◌≤◌, IfOk, OnErr};
+ghost use Rattle.std.specs.Prelude.{◌≤◌, ◌<◌, IfOk, OnErr};
 
 use crate::say;
 use crate::statement::{EVENTS, MAIL, MAILS, MODEL, PROCESS, RULE, RULES, Statement, WHOLE};
