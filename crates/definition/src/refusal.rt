@@ -1,33 +1,56 @@
-// "Refusal numbers", by the names that document 01 gives them.
+// "Refusal numbers": the names that document 01 gives them, and the number of each (specs/Answer.antt).
+ghost use Rattle.std.specs.Prelude.{◌≡◌};
+ghost use Rattle.definition.specs.Answer.{refusal_number};
 
-pub const BAD_ARGUMENT: u32 = 1;
+// What a call, a reader or the program refuses by.
+#[derive(Clone, Copy, Debug, PartialEq, Eq)]
+pub enum Refusal {
+    BadArgument,
+    AlreadyHave,
+    Gap,
+    TooLate,
+    NothingThere,
+    Idle,
+    NoRoom,
+    ShortBuffer,
+    Cut,
+    Overlong,
+    TooBig,
+    OutOfRange,
+    OutOfOrder,
+    Trailing,
+    TooLong,
+    BadState,
+}
 
-pub const ALREADY_HAVE: u32 = 2;
+// A refusal of bytes, with its offset: the place of the first byte of the number at fault.
+#[derive(Clone, Copy, Debug, PartialEq, Eq)]
+pub struct Fault {
+    pub refusal: Refusal,
+    pub at: usize,
+}
 
-pub const GAP: u32 = 3;
+impl From<Refusal> for u32 {
+    ghost from_gives = { λ r n. n ≡ refusal_number r };
 
-pub const TOO_LATE: u32 = 4;
-
-pub const NOTHING_THERE: u32 = 5;
-
-pub const IDLE: u32 = 6;
-
-pub const NO_ROOM: u32 = 7;
-
-pub const SHORT_BUFFER: u32 = 8;
-
-pub const CUT: u32 = 9;
-
-pub const OVERLONG: u32 = 10;
-
-pub const TOO_BIG: u32 = 11;
-
-pub const OUT_OF_RANGE: u32 = 12;
-
-pub const OUT_OF_ORDER: u32 = 13;
-
-pub const TRAILING: u32 = 14;
-
-pub const TOO_LONG: u32 = 15;
-
-pub const BAD_STATE: u32 = 16;
+    fn from(refusal: Refusal) -> u32 {
+        match refusal {
+            Refusal::BadArgument => 1,
+            Refusal::AlreadyHave => 2,
+            Refusal::Gap => 3,
+            Refusal::TooLate => 4,
+            Refusal::NothingThere => 5,
+            Refusal::Idle => 6,
+            Refusal::NoRoom => 7,
+            Refusal::ShortBuffer => 8,
+            Refusal::Cut => 9,
+            Refusal::Overlong => 10,
+            Refusal::TooBig => 11,
+            Refusal::OutOfRange => 12,
+            Refusal::OutOfOrder => 13,
+            Refusal::Trailing => 14,
+            Refusal::TooLong => 15,
+            Refusal::BadState => 16,
+        }
+    }
+}

@@ -4,17 +4,10 @@
 
 ghost use Rattle.std.specs.Prelude.{◌≡◌, length};
 ghost use Rattle.definition.specs.House.{number_at, house};
+ghost use Rattle.definition.specs.Answer.{number_in};
 ghost use Rattle.house.specs.Promise.{Writes};
 
-use definition::Number;
-use definition::refusal::{CUT, OVERLONG, TOO_BIG};
-
-// The number was written and the next one goes to this place; or it does not fit, and no byte was written.
-#[derive(Clone, Copy)]
-pub enum Written {
-    Next(usize),
-    Short,
-}
+use definition::refusal::Refusal;
 
 // A group is a number below this; a byte from this on says that another group follows.
 const GROUP: u32 = 128;
@@ -25,37 +18,36 @@ const MORE_GROUPS: usize = 4;
 // The last of them is below this.
 const LAST_GROUPS: u32 = 16;
 
-// The number at a place, or its fault. `value` is the sum of the groups so far, `weight` that of the next one, and `more` may follow it.
-pub fn read(bytes: &[u8], at: usize) -> Number
-    ensures { result ≡ number_at bytes.now at }
+// The number at a place with the place of the next one, or its fault: Cut, Overlong or TooBig. `value` is the sum of the groups so far, `weight` that
+// of the next one, and `more` may follow it.
+pub fn read(bytes: &[u8], at: usize) -> Result<(u32, usize), Refusal>
+    ensures { number_in result ≡ number_at bytes.now at }
 {
+    if bytes.len() < at {
+        return Err(Refusal::Cut);
+    }
     let mut more = MORE_GROUPS;
     let mut weight: u32 = 1;
     let mut value: u32 = 0;
-    let mut next = at;
-    while next < bytes.len() {
-        let byte = bytes[next] as u32;
-        next += 1;
+    for (group, byte) in bytes[at..].iter().enumerate() {
+        let byte = u32::from(*byte);
         if more == 0 && LAST_GROUPS <= byte {
-            return Number::Fault(TOO_BIG);
+            return Err(Refusal::TooBig);
         }
         if byte < GROUP {
             if 1 < weight && byte == 0 {
-                return Number::Fault(OVERLONG);
+                return Err(Refusal::Overlong);
             }
-            return Number::Read {
-                value: value + weight * byte,
-                next,
-            };
+            return Ok((value + weight * byte, at + group + 1));
         }
         value += weight * (byte % GROUP);
         weight *= GROUP;
         more -= 1;
     }
-    Number::Fault(CUT)
+    Err(Refusal::Cut)
 }
 
-// How many bytes a number takes.
+// How many bytes a number takes. Here and in `write` a loop goes on while the number has groups left: there is no list to go over.
 pub fn length(number: u32) -> usize
     ensures { result ≡ length (house number) }
 {
@@ -68,15 +60,15 @@ pub fn length(number: u32) -> usize
     size
 }
 
-// Writes a number at a place, if it fits.
-pub fn write(number: u32, buffer: &mut [u8], at: usize) -> Written
+// Writes a number at a place, if it fits, and gives the place of the next one.
+pub fn write(number: u32, buffer: &mut [u8], at: usize) -> Result<usize, Refusal>
     ensures { Writes (house number) buffer.old at result buffer.new }
 {
     if buffer.len() < at {
-        return Written::Short;
+        return Err(Refusal::ShortBuffer);
     }
     if buffer.len() - at < length(number) {
-        return Written::Short;
+        return Err(Refusal::ShortBuffer);
     }
     let mut rest = number;
     let mut next = at;
@@ -86,5 +78,5 @@ pub fn write(number: u32, buffer: &mut [u8], at: usize) -> Written
         next += 1;
     }
     buffer[next] = rest as u8;
-    Written::Next(next + 1)
+    Ok(next + 1)
 }

@@ -1,23 +1,23 @@
 -- At each return the tests that led there say which case of the definition holds.
-use mathlib.Core.Path.{sym, ◌∙◌}
-use borrow.Author.Tests.{le-leb, lt-leb}
+use Rattle.std.proofs.Common.{sym, le-leb}
+use Rattle.std.proofs.lemmas.Bool.{lt-leb}
 use Rattle.definition.specs.ModelBytes.{field}
 use Rattle.field.proofs.field.Goals as goal
+use Rattle.field.proofs.field.Goals.{then-value-low-via-then-value-low, then-value-low-via-else-value-low+then-high-value}
 
 pub returns-in_default : goal.returns-in_default
 unfolding field
-returns-in_default c = rw (sym c.read-answer.ensures ∙ c.in_default.is, c.number_fault.ensures, c.in_default.is)
+returns-in_default c = rw (sym c.read-answer.ensures, c.unwrap_err-refusal.ensures)
 
 pub returns-then-value-low : goal.returns-then-value-low
 unfolding field
-returns-then-value-low c = rw (sym c.read-answer.ensures ∙ c.in-Read.is, lt-leb _ _ c.if-value-low.true)
-
-pub returns-then-high-value : goal.returns-then-high-value
-unfolding field
-returns-then-high-value c =
-    rw (sym c.read-answer.ensures ∙ c.in-Read.is, le-leb _ _ c.if-value-low.false, lt-leb _ _ c.if-high-value.true)
+returns-then-value-low c =
+    elim c.then-value-low.branch [
+      | then-value-low-via-then-value-low w ↦ rw (sym c.read-answer.ensures, c.in-Ok.is, lt-leb _ _ w.if-value-low.true)
+      | then-value-low-via-else-value-low+then-high-value w ↦
+          rw (sym c.read-answer.ensures, c.in-Ok.is, le-leb _ _ w.if-value-low.false, lt-leb _ _ w.if-high-value.true)
+    ]
 
 pub returns : goal.returns
 unfolding field
-returns c =
-    rw (sym c.read-answer.ensures ∙ c.in-Read.is, le-leb _ _ c.if-value-low.false, le-leb _ _ c.if-high-value.false)
+returns c = rw (sym c.read-answer.ensures, c.in-Ok.is, le-leb _ _ c.if-value-low.false, le-leb _ _ c.if-high-value.false)
