@@ -7,11 +7,9 @@ use Prim.Native.Nat.{ℕ, zero, suc, ◌+◌, ◌-◌, ◌*◌, ◌%◌, ◌≤�
 use Rattle.std.proofs.Common.{arith, leb-false, length-drop}
 use Rattle.std.proofs.Math.Dec.{leb}
 use Rattle.std.proofs.Math.ListN.{length}
-use Rattle.definition.specs.declared.Number.{Number}
-use Rattle.definition.specs.declared.Number.TheVariants.{Read, Fault as NumberFault}
+use Rattle.definition.specs.House.{Number, Read, Fault as NumberFault, largest, more_groups, last_groups, ends, read_groups, number_at}
 use Rattle.definition.specs.declared.Call.{Call}
 use Rattle.definition.specs.declared.Call.TheVariants.{Deliver, Execute, Advance}
-use Rattle.definition.specs.House.{largest, more_groups, last_groups, ends, read_groups, number_at}
 use Rattle.definition.specs.Model.{Model}
 use Rattle.definition.specs.ModelBytes.{Parsed, Got, Fault, and_then, mapped, ranged, field, in_order_at, effect_by, effect_at, value_by, value_at, send_at, sends_at, rule_at, rules_at, setup_at, setups_at, whole, model_in}
 use Rattle.definition.specs.Program.{buffer_length, argument, call_by, call_at}

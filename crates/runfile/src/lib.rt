@@ -1,172 +1,76 @@
-// The run file: where its model stands, and the call at a place. A fault is answered with its place, counted from the start of the input; each
-// house number's answer is taken apart where it arrives, and a refusal leaves at once.
+// The run file: where its model stands, and the call at a place. Every number is read by `field`, and a fault leaves at once by `?`, with its place
+// counted from the start of the input.
 #![tactic(auto)]
 
 ghost use Rattle.std.specs.Prelude.{◌≡◌};
+ghost use Rattle.definition.specs.Answer.{parsed};
 ghost use Rattle.definition.specs.Program.{call_by, call_at};
-ghost use Rattle.runfile.specs.Reading.{refused, call_parsed, head_of};
+ghost use Rattle.runfile.specs.Reading.{head_of};
 
-use definition::numbers::{BUFFER_LENGTH, INPUT_LENGTH};
-use definition::refusal::{CUT, OUT_OF_RANGE, TOO_LONG};
-use definition::{Call, Number};
-
-// A refusal: its number, and the place of the number at fault.
-#[derive(Clone, Copy)]
-pub struct Fault {
-    pub number: u32,
-    pub at: usize,
-}
-
-// A call with the place of the next one, or the refusal.
-#[derive(Clone, Copy)]
-pub enum CallRead {
-    Got { call: Call, next: usize },
-    Refused(Fault),
-}
-
-// The model's first byte and how many it has, or the refusal.
-#[derive(Clone, Copy)]
-pub enum HeadRead {
-    Model { at: usize, size: usize },
-    Refused(Fault),
-}
-
-// The refusal by the number at a place; one that was read has none.
-fn refusal(answer: Number, at: usize) -> Fault
-    ensures { result ≡ refused answer at }
-{
-    match answer {
-        Number::Read { value: _, next: _ } => Fault { number: 0, at },
-        Number::Fault(number) => Fault { number, at },
-    }
-}
+use definition::Call;
+use definition::numbers::{BUFFER_LENGTH, INPUT_LENGTH, LARGEST};
+use definition::refusal::{Fault, Refusal};
+use field::field;
 
 // An inject's arguments.
-fn inject_at(bytes: &[u8], at: usize) -> CallRead
-    ensures { call_parsed result ≡ call_by bytes.now 0 at }
+#[tactic(auto, using(field::specs::Reading::got, field::specs::Reading::lost))]
+fn inject_at(bytes: &[u8], at: usize) -> Result<(Call, usize), Fault>
+    ensures { parsed result ≡ call_by bytes.now 0 at }
 {
-    let answer = house::read(bytes, at);
-    let Number::Read {
-        value: number,
-        next: at,
-    } = answer
-    else {
-        return CallRead::Refused(refusal(answer, at));
+    let (number, next) = field(bytes, 0, LARGEST, at)?;
+    let (receiver, next) = field(bytes, 0, LARGEST, next)?;
+    let (time, next) = field(bytes, 0, LARGEST, next)?;
+    let (kind, next) = field(bytes, 0, LARGEST, next)?;
+    let (value, next) = field(bytes, 0, LARGEST, next)?;
+    let call = Call::Inject {
+        number,
+        receiver,
+        time,
+        kind,
+        value,
     };
-    let answer = house::read(bytes, at);
-    let Number::Read {
-        value: receiver,
-        next: at,
-    } = answer
-    else {
-        return CallRead::Refused(refusal(answer, at));
-    };
-    let answer = house::read(bytes, at);
-    let Number::Read {
-        value: time,
-        next: at,
-    } = answer
-    else {
-        return CallRead::Refused(refusal(answer, at));
-    };
-    let answer = house::read(bytes, at);
-    let Number::Read {
-        value: kind,
-        next: at,
-    } = answer
-    else {
-        return CallRead::Refused(refusal(answer, at));
-    };
-    let answer = house::read(bytes, at);
-    let Number::Read { value, next } = answer else {
-        return CallRead::Refused(refusal(answer, at));
-    };
-    CallRead::Got {
-        call: Call::Inject {
-            number,
-            receiver,
-            time,
-            kind,
-            value,
-        },
-        next,
-    }
+    Ok((call, next))
 }
 
 // The call at a place: its tag, 0 inject, 1 deliver, 2 execute, 3 advance, and its arguments.
-pub fn call_at(bytes: &[u8], at: usize) -> CallRead
-    ensures { call_parsed result ≡ call_at bytes.now at }
+#[tactic(auto, using(field::specs::Reading::got, field::specs::Reading::lost), unfolding(definition::specs::Program::call_at))]
+pub fn call_at(bytes: &[u8], at: usize) -> Result<(Call, usize), Fault>
+    ensures { parsed result ≡ call_at bytes.now at }
 {
-    let answer = house::read(bytes, at);
-    let Number::Read { value: tag, next } = answer else {
-        return CallRead::Refused(refusal(answer, at));
-    };
-    if 3 < tag {
-        return CallRead::Refused(Fault {
-            number: OUT_OF_RANGE,
-            at,
-        });
-    }
+    let (tag, next) = field(bytes, 0, 3, at)?;
     if tag == 0 {
         return inject_at(bytes, next);
     }
-    let answer = house::read(bytes, next);
-    let Number::Read {
-        value: argument,
-        next,
-    } = answer
-    else {
-        return CallRead::Refused(refusal(answer, next));
-    };
-    if tag == 1 {
-        return CallRead::Got {
-            call: Call::Deliver(argument),
-            next,
-        };
-    }
-    if tag == 2 {
-        return CallRead::Got {
-            call: Call::Execute(argument),
-            next,
-        };
-    }
-    CallRead::Got {
-        call: Call::Advance {
+    let (argument, next) = field(bytes, 0, LARGEST, next)?;
+    let call = match tag {
+        1 => Call::Deliver(argument),
+        2 => Call::Execute(argument),
+        _ => Call::Advance {
             ceiling: argument,
             room: BUFFER_LENGTH,
         },
-        next,
-    }
+    };
+    Ok((call, next))
 }
 
-// A number of bytes.
-fn size(number: u32) -> usize
-    ensures { result ≡ number }
-{
-    number as usize
-}
-
-// Where the model stands: after its length, and it ends within the input.
-pub fn head(bytes: &[u8]) -> HeadRead
-    ensures { result ≡ head_of bytes.now }
+// Where the model stands: its first byte, after its length, and how many it has. It ends within the input.
+#[tactic(auto, using(crate::proofs::Steps::head_read, crate::proofs::Steps::ends, field::specs::Reading::got, field::specs::Reading::lost))]
+pub fn head(bytes: &[u8]) -> Result<(usize, usize), Fault>
+    ensures { parsed result ≡ head_of bytes.now }
 {
     if INPUT_LENGTH < bytes.len() {
-        return HeadRead::Refused(Fault {
-            number: TOO_LONG,
+        return Err(Fault {
+            refusal: Refusal::TooLong,
             at: INPUT_LENGTH,
         });
     }
-    let answer = house::read(bytes, 0);
-    let Number::Read {
-        value: length,
-        next: at,
-    } = answer
-    else {
-        return HeadRead::Refused(refusal(answer, 0));
-    };
-    let size = size(length);
+    let (size, at) = field(bytes, 0, LARGEST, 0)?;
+    let size = size as usize;
     if bytes.len() < at + size {
-        return HeadRead::Refused(Fault { number: CUT, at: 0 });
+        return Err(Fault {
+            refusal: Refusal::Cut,
+            at: 0,
+        });
     }
-    HeadRead::Model { at, size }
+    Ok((at, size))
 }

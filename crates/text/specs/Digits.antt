@@ -37,3 +37,7 @@ digits_enough (suc n) k h = rw (digits_enough n (k / 10) (omega arith))
 pub digits_more : (k : ℕ) → k ≤ largest → 10 ≤ k → digits 9 k ≡ digits 9 (k / 10) ++ ((48 + k % 10) ∷ [])
 unfolding capacity
 digits_more k h l = digits_last 8 k l ∙ ap (λ (ds : List ℕ). ds ++ ((48 + k % 10) ∷ [])) (sym (digits_enough 8 (k / 10) (omega arith)))
+
+-- and there is one more of them
+pub digits_longer : (k : ℕ) → k ≤ largest → 10 ≤ k → length (digits 9 k) ≡ length (digits 9 (k / 10)) + 1
+digits_longer k h l = ap length (digits_more k h l) ∙ length-append (digits 9 (k / 10)) ((48 + k % 10) ∷ [])

@@ -1,8 +1,7 @@
 -- How many bytes a line takes at most, for whoever lends the buffer: the longest, an event's, has 61.
 use Rattle.std.specs.Prelude.{◌++◌, ℕ, ◌≤◌, length}
 use Rattle.std.proofs.Common.{arith, length-append}
-use Rattle.definition.specs.declared.Answer.{Answer}
-use Rattle.definition.specs.declared.Answer.TheVariants.{Refused, Started, Injected, Delivered, Executed, Advanced}
+use Rattle.definition.specs.Answer.{Answer, Refused, Started, Injected, Delivered, Executed, Advanced}
 use Rattle.definition.specs.declared.Call.{Call}
 use Rattle.definition.specs.declared.Call.TheVariants.{Inject, Deliver, Execute, Advance}
 use Rattle.definition.specs.declared.Event.{Event}
@@ -12,11 +11,11 @@ use Rattle.text.specs.declared.Part.TheVariants.{File, Model, Call as CallPart}
 use Rattle.text.specs.Digits.{digits_most}
 use Rattle.text.specs.Part.{part_text}
 
-spaced_most : (k : ℕ) → length (spaced k) ≤ 11
+pub spaced_most : (k : ℕ) → length (spaced k) ≤ 11
 unfolding spaced
 spaced_most k = omega (arith, digits_most 9 k)
 
-part_most : (p : Part) → length (part_text p) ≤ 5
+pub part_most : (p : Part) → length (part_text p) ≤ 5
 part_most File = omega arith
 part_most Model = omega arith
 part_most CallPart = omega arith
@@ -29,14 +28,14 @@ pub model_most : (n : ℕ) → length (model_line n) ≤ 20
 unfolding model_line
 model_most n = simp length-append (omega (arith, spaced_most n))
 
-named_most : (c : Call) → length (named c) ≤ 18
+pub named_most : (c : Call) → length (named c) ≤ 18
 unfolding named
 named_most (Inject number receiver time kind value) = simp length-append (omega (arith, spaced_most number))
 named_most (Deliver place) = simp length-append (omega (arith, spaced_most place))
 named_most (Execute process) = simp length-append (omega (arith, spaced_most process))
 named_most (Advance ceiling room) = simp length-append (omega (arith, spaced_most ceiling))
 
-answered_most : (a : Answer) → length (answered a) ≤ 36
+pub answered_most : (a : Answer) → length (answered a) ≤ 36
 unfolding answered spaced_all
 answered_most (Refused n) = simp length-append (omega (arith, spaced_most n))
 answered_most Started = omega arith
