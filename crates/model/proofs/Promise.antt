@@ -1,50 +1,46 @@
--- The promise of `read`, from what the two readings of the model answer.
-use mathlib.Core.Path.{◌≡◌, sym, ap, ◌∙◌}
-use mathlib.Core.Bool.{true, false}
-use mathlib.Core.List.{List, [], ◌∷◌, ◌++◌}
-use Prim.Native.Nat.{ℕ}
-use native.Mathlib.Omega.{arith}
-use lib.ListN.{length}
+-- What the two readings of a model leave, and the room for one.
+use Rattle.std.specs.Prelude.{◌≡◌, true, List, [], ◌∷◌, ℕ, suc, ◌≤◌, ◌<◌, get_or, length, Ok}
+use Rattle.std.proofs.Common.{refl, sym, ◌∙◌, arith, eq-eqb, le-ltb}
+use Rattle.definition.specs.Lists.{all}
 use Rattle.definition.specs.Model.{Model}
-use Rattle.definition.specs.ModelBytes.{Got, Fault, model_in}
-use Rattle.field.specs.declared.Fault.{Fault as Refusal}
-use Rattle.field.specs.declared.FieldRead.{FieldRead}
-use Rattle.field.specs.declared.FieldRead.TheVariants.{Got as GotField}
-use Rattle.model.specs.declared.ModelRead.TheVariants.{Accepted, Refused}
-use Rattle.field.specs.Gives.{no_fault}
+use Rattle.definition.specs.ModelBytes.{Parsed, Got, and_then, whole, model_in}
 use Rattle.model.specs.Accepted.{accepted}
 use Rattle.model.specs.Held.{held}
-use Rattle.field.specs.Reading.{field_in}
-use Rattle.model.specs.Stored.{has_room, model_for, put_model, Reads, Promise}
+use Rattle.model.specs.Stored.{puts, put_process, put_model, Reads, is_full, has_room, model_for, told, Promise}
 use Rattle.model.proofs.Steps.{made}
 
-module _ (bs : List ℕ) (m : List (List (List ℕ))) where
-  pub no_room : has_room m ≡ false → Promise bs m m (Refused (record { number = 16; at = 0 }))
-  unfolding model_for
-  no_room h =
-      let e : model_for bs m ≡ Fault 16 0 = rw h in
-      record { answer = sym (rw e); rows = sym (rw e); holds = λ M next d. no_fault (sym e ∙ d) }
+-- rows that are all of their length are full
+pub all_full : (m : List (List (List ℕ))) → ((i : ℕ) → i < length m → length (get_or m i []) ≡ 65) → all is_full m ≡ true
+unfolding all
+all_full [] f = refl
+all_full (x ∷ m) f = rw (eq-eqb (length x) 65 (f 0 (omega arith))) (all_full m (λ i h. f (suc i) (omega arith)))
 
-  module _ (room : has_room m ≡ true) where
-    pub refused : (f : Refusal) → model_in bs ≡ Fault f.number f.at → (part : List (List (List ℕ))) → length part ≡ 0 → Promise bs m (part ++ m) (Refused f)
-    unfolding model_for
-    refused f h [] z =
-        let e : model_for bs m ≡ Fault f.number f.at = rw (room, h) in
-        record { answer = sym (rw e); rows = sym (rw e); holds = λ M next d. no_fault (sym e ∙ d) }
-    refused f h (x ∷ part) z = absurd (omega arith)
+-- the processes are the whole model, n as it says
+pub model_stored : (bs : List ℕ) (n : ℕ) {p q : Parsed Model} {before after : List (List (List ℕ))} {v end : ℕ} → Reads length (puts (put_process n) 0) q before after (Ok (v, end))
+    → length bs ≤ end → ((M : Model) → q ≡ Got M end → length M ≡ n) → p ≡ and_then q (whole bs) → Reads length put_model p before after (Ok (v, end))
+model_stored bs n {p} {q} {before} {after} {v} {end} g h count follows = go (made length q (sym g.answer))
+  where
+    go : (M : Model) × (q ≡ Got M end) × (length M ≡ v) → Reads length put_model p before after (Ok (v, end))
+    go (M, d, l) =
+        let all : p ≡ Got M end = follows ∙ rw (d, le-ltb end (length bs) h) in
+        record {
+          answer = sym (rw (all, l));
+          kept = g.kept;
+          stored = λ N o k. let same : N ≡ M = cc in rw (same, count M d) (g.stored M end d);
+        }
 
-    stands : (M : Model) (next : ℕ) → model_in bs ≡ Got M next → (v : ℕ) → length M ≡ v → (after : List (List (List ℕ))) → after ≡ put_model M m → Promise bs m after (Accepted v)
-    unfolding model_for
-    stands M next h v l after s =
-        let e : model_for bs m ≡ Got M next = rw (room, h) in
+-- the model that stands in the rows is the one that the bytes say
+pub promised : {bs : List ℕ} {m after : List (List (List ℕ))} {v next : ℕ} → has_room m ≡ true → Reads length put_model (model_in bs) m after (Ok (v, next))
+    → Promise bs m after (told (Ok v))
+unfolding model_for
+promised {bs} {m} {after} {v} {next} room g = go (made length (model_in bs) (sym g.answer))
+  where
+    go : (M : Model) × (model_in bs ≡ Got M next) × (length M ≡ v) → Promise bs m after (told (Ok v))
+    go (M, d, l) =
+        let e : model_for bs m ≡ Got M next = rw (room, d) in
+        let s = g.stored M next d in
         record {
           answer = sym (rw (e, l));
           rows = s ∙ sym (rw e);
-          holds = λ N o d. let same : N ≡ M = cc in rw (same, s) (held M m room (accepted bs M next h).0);
+          holds = λ N o k. let same : N ≡ M = cc in rw (same, s) (held M m room (accepted bs M next d).0);
         }
-
-    pub read_twice : (part after : List (List (List ℕ))) (r s : FieldRead) {v next : ℕ} → Reads length put_model (model_in bs) [] part r → r ≡ GotField v next
-        → Reads length put_model (model_in bs) (part ++ m) after s → Promise bs m after (Accepted v)
-    read_twice [] after r s {v} {next} g e k =
-        let w = made length (model_in bs) (sym g.answer ∙ ap field_in e) in stands w.0 next w.1 v w.2 after (k.stored w.0 next w.1)
-    read_twice (x ∷ part) after r s g e k = absurd (omega (arith, g.kept))

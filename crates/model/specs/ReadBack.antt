@@ -14,9 +14,8 @@ use Rattle.definition.specs.declared.Effect.{Effect}
 use Rattle.definition.specs.declared.Effect.TheVariants.{Keep, Set, Add, AddRead}
 use Rattle.definition.specs.declared.Value.{Value}
 use Rattle.definition.specs.declared.Value.TheVariants.{Fixed, Tally, Read}
-use Rattle.definition.specs.declared.Number.TheVariants.{Read as NumberRead}
+use Rattle.definition.specs.House.{Read as NumberRead, largest, more_groups, read_groups, number_at, house}
 use Rattle.definition.specs.declared.Send.{Send}
-use Rattle.definition.specs.House.{largest, more_groups, read_groups, number_at, house}
 use Rattle.definition.specs.Lists.{all, or_else, is_less, compare_keys, in_order}
 use Rattle.definition.specs.Model.{Rule, Setup, Model, ok_effect, ok_value, ok_send, ok_stand, ok_rule, ok_setup, ok_model, rule_key}
 use Rattle.definition.specs.ModelBytes.{Parsed, Got, and_then, field, in_order_at, effect_at, effect_by, value_at, value_by, send_at, sends_at, rule_at, rules_at, setup_at, setups_at, model_in}

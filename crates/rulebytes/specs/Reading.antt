@@ -1,49 +1,16 @@
--- What each answer of the code says in the words of the definition; the rule of the definition as it is decoded in a row, where words that a rule
--- does not need are 0; and the part of a rule that is read last.
-use Rattle.std.specs.Prelude.{◌≡◌, List, ℕ, length, get_or}
-use Rattle.std.proofs.Common.{ap₂, arith}
-use Rattle.definition.specs.declared.Effect.{Effect}
-use Rattle.definition.specs.declared.Value.{Value}
+-- The rule of the definition as it is decoded in a row, where words that a rule does not need are 0; and the part of a rule that is read last.
+use Rattle.std.specs.Prelude.{◌≡◌, List, ℕ, length, get_or, Result}
 use Rattle.definition.specs.declared.Value.TheVariants.{Fixed}
 use Rattle.definition.specs.declared.Send.{Send}
+use Rattle.definition.specs.declared.refusal.Fault.{Fault as Refused_at}
+use Rattle.definition.specs.Answer.{parsed, one_parsed}
 use Rattle.definition.specs.Model.{Rule}
-use Rattle.definition.specs.ModelBytes.{Parsed, Got, Fault, and_then, field, effect_at, sends_at}
+use Rattle.definition.specs.ModelBytes.{Parsed, Got, and_then, field, effect_at, sends_at}
 use Rattle.rule.specs.declared.Decoded.{Decoded}
-use Rattle.rulebytes.specs.declared.EffectRead.{EffectRead}
-use Rattle.rulebytes.specs.declared.EffectRead.TheVariants.{Got as GotEffect, Refused as NoEffect}
-use Rattle.rulebytes.specs.declared.ValueRead.{ValueRead}
-use Rattle.rulebytes.specs.declared.ValueRead.TheVariants.{Got as GotValue, Refused as NoValue}
-use Rattle.rulebytes.specs.declared.SendRead.{SendRead}
-use Rattle.rulebytes.specs.declared.SendRead.TheVariants.{Got as GotSend, Refused as NoSend}
-use Rattle.rulebytes.specs.declared.RuleRead.{RuleRead}
-use Rattle.rulebytes.specs.declared.RuleRead.TheVariants.{Got as GotRule, Refused as NoRule}
 
--- ---- answers
-
-abbrev pub effect_in : EffectRead → Parsed Effect
-effect_in (GotEffect e next) = Got e next
-effect_in (NoEffect f) = Fault f.number f.at
-
-abbrev pub value_in : ValueRead → Parsed Value
-value_in (GotValue v next) = Got v next
-value_in (NoValue f) = Fault f.number f.at
-
-abbrev pub send_in : SendRead → Parsed Send
-send_in (GotSend s next) = Got s next
-send_in (NoSend f) = Fault f.number f.at
-
-abbrev pub rule_in : RuleRead → Parsed Decoded
-rule_in (GotRule d next) = Got d next
-rule_in (NoRule f) = Fault f.number f.at
-
--- the answer is settled by what it says
-pub one_answer : (r s : RuleRead) → rule_in r ≡ rule_in s → r ≡ s
-one_answer (GotRule d next) (GotRule o place) e = cc
-one_answer (GotRule d next) (NoRule f) e = let z : ◌≡◌ {A = ℕ} 0 1 = cc in absurd (omega arith)
-one_answer (NoRule f) (GotRule d next) e = let z : ◌≡◌ {A = ℕ} 0 1 = cc in absurd (omega arith)
-one_answer (NoRule f) (NoRule g) e = ap₂ (λ (number at : ℕ). NoRule (record { number = number; at = at })) (cc) (cc)
-
--- ---- a send and a rule
+-- an answer is settled by what it says
+pub one_answer : (r s : Result (Decoded × ℕ) Refused_at) → parsed r ≡ parsed s → r ≡ s
+one_answer = one_parsed
 
 -- a send that is not there
 abbrev pub no_send : Send

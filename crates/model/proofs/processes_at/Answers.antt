@@ -1,26 +1,18 @@
-use mathlib.Core.Path.{refl, ◌∙◌}
-use native.Mathlib.Omega.{arith}
-use Rattle.field.specs.Reading.{field_in, read}
-use Rattle.model.specs.Stored.{put_process}
-use Rattle.model.proofs.Loops.{stopped, ended}
-use Rattle.model.proofs.Rules.{setups_start, setups_fault, setups_turn, setups_end}
-use borrow.Author.Rules.{rules}
+-- A turn reads one process more; a fault leaves, and after the last turn nothing is left to read.
+use Rattle.std.proofs.Common.{◌≡◌, ◌-◌, sym, ◌∙◌, arith}
+use Rattle.model.proofs.Steps.{leaves}
+use Rattle.model.proofs.Loops.{start, stopped, ended}
+use Rattle.model.proofs.Rules.{setups_fault, setups_turn, setups_end}
 use Rattle.model.proofs.processes_at.Goals as goal
 
-pub loop-done-init : goal.loop-done-init
-loop-done-init c = (search rules, setups_start _ _ _ _ _ _)
+pub loop-place-init : goal.loop-place-init
+loop-place-init c = let all : c.args.processes - 0 ≡ c.args.processes = omega arith in rw all start
 
-pub shape_of-model-in_default : goal.shape_of-model-in_default
-shape_of-model-in_default c = c.process_at-answer.ensures.kept ∙ c.loop-done.invariant.1.kept
+pub returns-in_err-next : goal.returns-in_err-next
+returns-in_err-next c = leaves _ c.from_residual.ensures (stopped c.loop-place.invariant (setups_fault _ _ _ _ _ c.loop-place-test.true (sym c.in_err-next.ensures.answer))) (c.process_at.ensures.kept ∙ c.loop-place.invariant.kept)
 
-pub returns-in_default : goal.returns-in_default
-returns-in_default c = stopped (put_process c.args.processes) _ _ _ _ _ c.loop-done.invariant.1 c.in_default.is (setups_fault _ _ _ _ _ c.loop-done-test.true (read field_in c.process_at-answer.ensures.answer c.in_default.is)) _ c.process_at-answer.ensures.kept
-
-pub loop-done-preserved : goal.loop-done-preserved
-loop-done-preserved c = (omega arith, setups_turn _ _ _ _ _ _ _ _ _ c.loop-done-test.true c.loop-done.invariant.1 _ c.size.ensures _ c.process_at-answer.ensures c.in-Got.is)
-
-pub shape_of-model : goal.shape_of-model
-shape_of-model c = c.loop-done.invariant.1.kept
+pub loop-place-preserved : goal.loop-place-preserved
+loop-place-preserved c = setups_turn _ _ _ _ _ _ c.loop-place-test.true c.loop-place.invariant c.process_at.ensures (sym c.in_ok-next.ensures.answer)
 
 pub returns : goal.returns
-returns c = ended (put_process c.args.processes) _ _ _ _ _ _ c.loop-done.invariant.1 _ (setups_end _ _ _ _ _ c.loop-done-test.false) refl
+returns c = let all : c.loop-place.place ≡ c.args.processes = omega arith in ended (rw all at c.loop-place.invariant) (setups_end _ _ _ _)
