@@ -1,48 +1,39 @@
 -- The queue after an arrival, by where the message stands: new at its place, or one entry counted once more.
-use Prim.Native.Nat.{ℕ, zero, suc, ◌+◌, ◌-◌, ◌≤◌, ◌<◌, suc-le-suc, zero-le, Ordering}
-use mathlib.Core.Path.{◌≡◌, refl, ap, sym, ◌∙◌}
-use mathlib.Core.Bool.{Bool, true, cond}
-use mathlib.Core.List.{List, [], ◌∷◌, ◌++◌, map}
-use native.Mathlib.Omega.{arith}
-use native.Mathlib.Numerals.{add-one}
-use native.Mathlib.Nat.{le_of_suc-le-suc, not-suc-le-zero}
-use lib.IntN.{pos}
-use lib.ListN.{length, get_or, take, drop, length-append, length-take, length-drop}
+use Rattle.std.specs.Prelude.{ℕ, zero, suc, ◌≡◌, refl, Bool, true, false, cond, List, [], ◌∷◌, ◌++◌, ◌+◌, ◌-◌, ◌≤◌, ◌<◌, map, length, get_or, take, drop, pos, Ok, Err}
+use Rattle.std.proofs.Common.{ap, sym, ◌∙◌, arith, add-one, zero-le, suc-le-suc, le_of_suc-le-suc, not-suc-le-zero, length-append, length-take, length-drop}
+use Rattle.std.proofs.lemmas.List.{length-map}
+use Rattle.std.proofs.Math.ListN.{get_or-map}
+use Rattle.std.proofs.Math.Logic.{⊎_elim}
+use Rattle.std.proofs.Math.Nat.{eq-or-lt_of_le}
+use Rattle.std.specs.Ordering.{is_gt, is_eq}
 use borrow.Author.Tests.{eq-eqb, ne_eqb}
-use Rattle.definition.specs.Lists.{compare}
+use Prim.Native.Nat.{Ordering}
+use Rattle.definition.specs.Lists.{compare, in_order}
 use Rattle.definition.specs.Message.{Message, message_key}
-use Rattle.definition.specs.State.{Entry, entry, arrived, is_zero, by_order, counted}
-use Rattle.laws.specs.Slices.{map_append, map_take, map_drop, map_take_at, map_take_length}
+use Rattle.definition.specs.State.{Entry, entry, entry_key, arrived, is_zero, counted}
+use Rattle.laws.specs.Order.{keys_flip, keys_trans}
+use Rattle.laws.specs.Places.{keys_turn}
+use Rattle.laws.specs.Slices.{map_append, map_take, map_drop}
 use Rattle.queue.specs.Rows.{message_of, entry_of, entries, with_last}
-use Rattle.queue.specs.Queues.{reading_order, Placed, Holds, count_at, moved, recounted, added}
-use Rattle.definition.specs.BadState.{ok_nets}
-use Rattle.queue.proofs.Nets.{net_new, net_moved}
-use Rattle.queue.proofs.Reading.{rank_same, is_before}
-use Rattle.queue.proofs.Orders.{counts}
+use Rattle.queue.specs.Queues.{reading_order, Placed, Found, Holds, count_at, moved, recounted, added}
+use Rattle.queue.proofs.Nets.{net_new, net_moved, net_gone}
+use Rattle.queue.proofs.Reading.{answer, is_after, not_after, is_same, is_before}
+use Rattle.queue.proofs.Orders.{ascends}
 
 -- ---- on entries
-
-by_lt : {A : Type 0} (o : Ordering) (a b c : A) → o ≡ Ordering.lt → by_order o a b c ≡ a
-by_lt o a b c e = rw e
-
-by_eq : {A : Type 0} (o : Ordering) (a b c : A) → o ≡ Ordering.eq → by_order o a b c ≡ b
-by_eq o a b c e = rw e
-
-by_gt : {A : Type 0} (o : Ordering) (a b c : A) → o ≡ Ordering.gt → by_order o a b c ≡ c
-by_gt o a b c e = rw e
 
 module _ (anti : Bool) (m : Message) where
   counted_lt : (e : Entry) (l : List Entry) → compare message_key m e.message ≡ Ordering.lt → counted anti m (e ∷ l) ≡ entry m (arrived anti (pos 0)) ∷ e ∷ l
   unfolding counted
-  counted_lt e l h = by_lt (compare message_key m e.message) _ _ _ h
+  counted_lt e l h = rw h
 
   counted_eq : (e : Entry) (l : List Entry) → compare message_key m e.message ≡ Ordering.eq → counted anti m (e ∷ l) ≡ cond (is_zero (arrived anti e.net)) l (entry e.message (arrived anti e.net) ∷ l)
   unfolding counted
-  counted_eq e l h = by_eq (compare message_key m e.message) _ _ _ h
+  counted_eq e l h = rw h
 
   counted_gt : (e : Entry) (l : List Entry) → compare message_key m e.message ≡ Ordering.gt → counted anti m (e ∷ l) ≡ e ∷ counted anti m l
   unfolding counted
-  counted_gt e l h = by_gt (compare message_key m e.message) _ _ _ h
+  counted_gt e l h = rw h
 
   counted_none : counted anti m [] ≡ entry m (arrived anti (pos 0)) ∷ []
   unfolding counted
@@ -66,81 +57,62 @@ module _ (anti : Bool) (m : Message) where
 
 -- ---- on rows
 
--- the message of m is new at place i; it is entry i, counted once more
-abbrev pub New : List (List ℕ) → ℕ → List ℕ → ℕ → Bool → Type 0
-New q n m i anti = counted anti (message_of m) (entries q n) ≡ added anti i (message_of m) (entries q n)
-
-abbrev pub Again : List (List ℕ) → ℕ → List ℕ → ℕ → Bool → Type 0
-Again q n m i anti = counted anti (message_of m) (entries q n) ≡ recounted anti i (entries q n)
-
--- by what `place` and then `compare` answered
-module _ {q : List (List ℕ)} {n i : ℕ} {m : List ℕ} (l : n ≤ length q) (at : Placed q n m i) (anti : Bool) where
-  first : (k : ℕ) → k < i → compare message_key (message_of m) (get_or (entries q n) k (entry_of [])).message ≡ Ordering.gt
-  first k h = let z : k < n = omega (arith, at.fits) in rw (map_take_at entry_of q n [] k z) (at.first k h)
-
-  new : (i < n → reading_order m (get_or q i []) ≡ Ordering.lt) → New q n m i anti
-  new f =
-      let z : length (entries q n) ≡ n = map_take_length entry_of q n l in
-      counted_new anti (message_of m) (entries q n) i (omega (arith, at.fits)) first
-      (λ h. let b : i < n = omega arith in rw (map_take_at entry_of q n [] i b) (f b))
-
-  pub new_last : i ≡ n → New q n m i anti
-  new_last e = new (λ h. absurd (let z : ⊥ = omega arith in z))
-
-  module _ {r : ℕ} (e : r ≡ by_order (reading_order m (get_or q i [])) 0 1 2) where
-    pub new_between : (r ≡ 1 → ⊥) → New q n m i anti
-    new_between ne = new (λ h. is_before (reading_order m (get_or q i [])) (at.last h) (λ f. ne (e ∙ rw f)))
-
-    pub again : (i ≡ n → ⊥) → r ≡ 1 → Again q n m i anti
-    again ne f =
-        let z : length (entries q n) ≡ n = map_take_length entry_of q n l in
-        let b : i < n = omega (arith, at.fits) in
-        counted_again anti (message_of m) (entries q n) i (omega arith) first (rw (map_take_at entry_of q n [] i b) (rank_same (reading_order m (get_or q i [])) (sym e ∙ f)))
-
-  -- a new entry needs room
-  pub room : New q n m i anti → length (counted anti (message_of m) (entries q n)) ≤ length q → n < length q
-  unfolding added
-  room e r =
-      let z : length (entries q n) ≡ n = map_take_length entry_of q n l in
-      let y : length (take i (entries q n) ++ entry (message_of m) (arrived anti (pos 0)) ∷ drop i (entries q n)) ≤ length q = rw e at r in
-      omega (arith, at.fits, simp (length-append, length-take, length-drop) at y)
-
-pub in_range : {q : List (List ℕ)} {n i : ℕ} {m : List ℕ} → n ≤ length q → Placed q n m i → ok_nets (entries q n) ≡ true → (i ≡ n → ⊥) → (1 ≤ count_at q i) × (count_at q i < 512)
-in_range {q} {n} {i} l at ok ne = counts q n l ok i (omega (arith, at.fits))
-
--- ---- the entries after a move of rows
-
-pub holds_new : (q q' : List (List ℕ)) (n i : ℕ) (anti : Bool) (m : List ℕ) → i ≤ n → n < length q → take (n + 1) q' ≡ take i (take n q) ++ with_last m (moved anti 256) ∷ drop i (take n q) → Holds (entries q') (n + 1) (added anti i (message_of m) (entries q n))
-unfolding added
-holds_new q q' n i anti m h l e =
-    let z : length (entries q n) ≡ n = map_take_length entry_of q n (omega arith) in
+-- the last row that is read before m settles its place, since the queue is in order
+pub placed : (q : List (List ℕ)) (m : List ℕ) (i : ℕ) → in_order entry_key (map entry_of q) ≡ true → i ≤ length q
+    → (0 < i → is_gt (answer (reading_order m (get_or q (i - 1) []))) ≡ true) → (i < length q → is_gt (answer (reading_order m (get_or q i []))) ≡ false) → Placed q m i
+placed q m i asc h low high =
     record {
-      same = ap (map entry_of) e ∙ map_append entry_of (take i (take n q)) (with_last m (moved anti 256) ∷ drop i (take n q)) ∙ rw (map_take, map_drop entry_of, net_new);
-      many = simp (length-append, length-take, length-drop) (omega arith);
+      fits = h;
+      first = λ k b. let o : reading_order m (get_or q (i - 1) []) ≡ Ordering.gt = is_after _ (low (omega arith)) in ⊎_elim
+          (λ e. rw e o)
+          (λ g. keys_turn (key k) (message_key (message_of m)) (keys_trans (key k) (key (i - 1)) (message_key (message_of m)) (ascends q asc k (i - 1) g (omega arith)) (keys_flip (message_key (message_of m)) (key (i - 1)) o)))
+          (eq-or-lt_of_le (let z : k ≤ i - 1 = omega arith in z));
+      last = λ b. not_after _ (high b);
     }
+  where
+    key : ℕ → List ℕ
+    key k = message_key (message_of (get_or q k []))
 
-module _ (q : List (List ℕ)) (n i : ℕ) (anti : Bool) (h : i < n) (l : n ≤ length q) (p : 1 ≤ count_at q i) where
-  pub gone : moved anti (count_at q i) ≡ 256 → recounted anti i (entries q n) ≡ take i (entries q n) ++ drop (suc i) (entries q n)
-  unfolding recounted
-  gone e = rw (map_take_at entry_of q n [] i h, (net_moved anti (count_at q i) p).1, eq-eqb _ 256 e)
+module _ {q : List (List ℕ)} {m : List ℕ} {i : ℕ} (at : Placed q m i) where
+  first : (k : ℕ) → k < i → compare message_key (message_of m) (get_or (map entry_of q) k (entry_of [])).message ≡ Ordering.gt
+  first k h = rw (get_or-map entry_of q k []) (at.first k h)
 
-  pub kept : (moved anti (count_at q i) ≡ 256 → ⊥) → recounted anti i (entries q n) ≡ take i (entries q n) ++ entry_of (with_last (get_or q i []) (moved anti (count_at q i))) ∷ drop (suc i) (entries q n)
-  unfolding recounted
-  kept e = rw (map_take_at entry_of q n [] i h, (net_moved anti (count_at q i) p).1, ne_eqb _ 256 e, (net_moved anti (count_at q i) p).0)
+  new : (i < length q → reading_order m (get_or q i []) ≡ Ordering.lt) → Found q m (Err i)
+  new f = (
+    at.fits,
+    λ anti. counted_new anti (message_of m) (map entry_of q) i (rw (length-map q entry_of) at.fits) first
+        (λ h. rw (get_or-map entry_of q i []) (f (rw (length-map q entry_of) at h))),
+  )
 
-  module _ (q' : List (List ℕ)) where
-    pub holds_gone : moved anti (count_at q i) ≡ 256 → take (n - 1) q' ≡ take i (take n q) ++ drop (i + 1) (take n q) → Holds (entries q') (n - 1) (recounted anti i (entries q n))
-    holds_gone e f =
-        let z : length (entries q n) ≡ n = map_take_length entry_of q n l in
-        record {
-          same = ap (map entry_of) f ∙ map_append entry_of (take i (take n q)) (drop (i + 1) (take n q)) ∙ rw (map_take, map_drop, add-one i) (sym (gone e));
-          many = rw (gone e) (simp (length-append, length-take, length-drop) (omega arith));
-        }
+  pub found_again : i < length q → is_eq (answer (reading_order m (get_or q i []))) ≡ true → Found q m (Ok i)
+  found_again h e = (h, λ anti. counted_again anti (message_of m) (map entry_of q) i (rw (length-map q entry_of) h) first (rw (get_or-map entry_of q i []) (is_same _ e)))
 
-    pub holds_kept : (moved anti (count_at q i) ≡ 256 → ⊥) → take n q' ≡ take i (take n q) ++ with_last (get_or q i []) (moved anti (count_at q i)) ∷ drop (i + 1) (take n q) → Holds (entries q') n (recounted anti i (entries q n))
-    holds_kept e f =
-        let z : length (entries q n) ≡ n = map_take_length entry_of q n l in
-        record {
-          same = ap (map entry_of) f ∙ map_append entry_of (take i (take n q)) (with_last (get_or q i []) (moved anti (count_at q i)) ∷ drop (i + 1) (take n q)) ∙ rw (map_take, map_drop entry_of, add-one i) (sym (kept e));
-          many = rw (kept e) (simp (length-append, length-take, length-drop) (omega arith));
-        }
+  pub found_between : i < length q → is_eq (answer (reading_order m (get_or q i []))) ≡ false → Found q m (Err i)
+  found_between h e = new (λ b. is_before _ (at.last b) e)
+
+  pub found_last : length q ≤ i → Found q m (Err i)
+  found_last h = new (λ b. absurd (let z : ⊥ = omega arith in z))
+
+-- ---- the rows that say it
+
+module _ (r : List (List ℕ)) (i : ℕ) (anti : Bool) where
+  pub new_row : (m : List ℕ) → added anti i (message_of m) (map entry_of r) ≡ map entry_of (take i r ++ with_last m (moved anti 256) ∷ drop i r)
+  unfolding added
+  new_row m = sym (map_append entry_of (take i r) (with_last m (moved anti 256) ∷ drop i r) ∙ rw (map_take entry_of i r, map_drop entry_of i r, net_new anti))
+
+  pub new_many : (m : List ℕ) → i ≤ length r → length (added anti i (message_of m) (map entry_of r)) ≡ length r + 1
+  new_many m h = rw (new_row m) (simp (length-map, length-append, length-take, length-drop) (omega arith))
+
+  module _ (p : 1 ≤ count_at r i) where
+    pub gone : moved anti (count_at r i) ≡ 256 → recounted anti i (map entry_of r) ≡ map entry_of (take i r ++ drop (i + 1) r)
+    unfolding recounted
+    gone e = sym (map_append entry_of (take i r) (drop (i + 1) r) ∙ rw (map_take entry_of i r, map_drop entry_of (i + 1) r, get_or-map entry_of r i [], net_gone anti (count_at r i) p, eq-eqb _ 256 e, add-one i))
+
+    pub kept : (moved anti (count_at r i) ≡ 256 → ⊥) → recounted anti i (map entry_of r) ≡ map entry_of (take i r ++ with_last (get_or r i []) (moved anti (count_at r i)) ∷ drop (i + 1) r)
+    unfolding recounted
+    kept e = sym (map_append entry_of (take i r) (with_last (get_or r i []) (moved anti (count_at r i)) ∷ drop (i + 1) r)
+        ∙ rw (map_take entry_of i r, map_drop entry_of (i + 1) r, get_or-map entry_of r i [], net_gone anti (count_at r i) p, ne_eqb _ 256 e, net_moved anti (count_at r i) p, add-one i))
+
+-- a queue whose first k rows are these
+pub holds : (q : List (List ℕ)) (k : ℕ) (rows : List (List ℕ)) (l : List Entry) → take k q ≡ rows → k ≡ length rows → l ≡ map entry_of rows → Holds (entries q) k l
+holds q k rows l e n f = record { same = ap (map entry_of) e ∙ sym f; many = n ∙ sym (ap length f ∙ length-map rows entry_of) }

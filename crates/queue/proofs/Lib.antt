@@ -4,6 +4,5 @@ pub mod Orders
 pub mod Arrivals
 pub mod Verdicts
 pub mod Cuts
-pub mod Walk
 pub mod Least
-pub mod Joins
+pub mod Walk

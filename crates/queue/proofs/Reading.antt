@@ -1,72 +1,79 @@
--- The reading order of two rows, word by word, and that it is the order of their messages.
-use Prim.Native.Nat.{ℕ, zero, suc, ◌+◌, ◌-◌, ◌≤◌, ◌<◌, compare, Ordering}
-use mathlib.Core.Path.{◌≡◌, refl, ap, ◌∙◌}
-use mathlib.Core.List.{List, [], ◌∷◌}
-use native.Mathlib.Omega.{arith}
-use native.Mathlib.Nat.{add-zero}
-use lib.ListN.{get_or, drop}
-use lib.Seq.{get_or-drop, drop-drop}
+-- The reading order of two rows: the first of their seven words that differs decides, as it does of their messages.
+use Rattle.std.specs.Prelude.{ℕ, zero, suc, ◌<◌, get_or, ◌≡◌, refl, Bool, true, false, List, [], ◌∷◌, length, take}
+use Rattle.std.proofs.Common.{ap, ◌∙◌, sym, arith, rules, zero-le, suc-le-suc, le_of_suc-le-suc, not-suc-le-zero, get_or-take, length-take}
+use Rattle.std.proofs.lemmas.List.{same_lists, ext_get_or, places}
+use Rattle.std.proofs.lemmas.Bool.Decides.{nat_tests}
+use Rattle.std.specs.Ordering.{nat_cmp, is_gt, is_eq, is_ne}
+use Rattle.std.specs.declared.cmp.Ordering.{Ordering as Answer}
+use Rattle.std.specs.declared.cmp.Ordering.TheVariants.{Less, Equal, Greater}
+use Prim.Native.Nat.{compare, Ordering}
 use Rattle.definition.specs.Lists.{or_else, compare_keys}
 use Rattle.definition.specs.Message.{message_key}
 use Rattle.definition.specs.State.{by_order}
-use Rattle.laws.specs.Order.{lt_compare, eq_compare, gt_compare}
+use Rattle.laws.specs.Order.{compare_lt, compare_eq, compare_gt, eq_compare, keys_refl}
 use Rattle.queue.specs.Rows.{message_of}
 use Rattle.queue.specs.Queues.{reading_order}
 
--- the first k words
-unfoldable pub words : ℕ → List ℕ → List ℕ
-words zero a = []
-words (suc k) a = get_or a 0 0 ∷ words k (drop 1 a)
+abbrev pub answer : Ordering → Answer
+answer o = by_order o Less Equal Greater
 
--- the order by the words from k on
-unfoldable pub order_from : ℕ → List ℕ → List ℕ → Ordering
-order_from k a b = compare_keys (words (7 - k) (drop k a)) (words (7 - k) (drop k b))
+of_words : (x y : ℕ) → nat_cmp x y ≡ answer (compare x y)
+of_words x y = go (compare x y) refl
+  where
+    go : (o : Ordering) → compare x y ≡ o → nat_cmp x y ≡ answer o
+    go Ordering.lt e = let h = compare_lt x y e in grind (arith, nat_tests)
+    go Ordering.eq e = let h = compare_eq x y e in grind (arith, nat_tests)
+    go Ordering.gt e = let h = compare_gt x y e in grind (arith, nat_tests)
 
-words_message : (a : List ℕ) → message_key (message_of a) ≡ words 7 a
-unfolding words
-words_message a = simp (get_or-drop, drop-drop)
+-- the first that differs decides
+of_keys : (j : ℕ) (a b : List ℕ) → j < length a → j < length b → ((k : ℕ) → k < j → get_or a k 0 ≡ get_or b k 0) → is_ne (nat_cmp (get_or a j 0) (get_or b j 0)) ≡ true
+    → nat_cmp (get_or a j 0) (get_or b j 0) ≡ answer (compare_keys a b)
+unfolding compare_keys
+of_keys j [] b h i f n = absurd (not-suc-le-zero h)
+of_keys j (x ∷ a) [] h i f n = absurd (not-suc-le-zero i)
+of_keys zero (x ∷ a) (y ∷ b) h i f n = of_words x y ∙ go (compare x y) (rw (← of_words x y) n)
+  where
+    go : (o : Ordering) → is_ne (answer o) ≡ true → answer o ≡ answer (or_else o (compare_keys a b))
+    go Ordering.lt e = refl
+    go Ordering.eq e = cc
+    go Ordering.gt e = refl
+of_keys (suc j) (x ∷ a) (y ∷ b) h i f n = of_keys j a b (le_of_suc-le-suc h) (le_of_suc-le-suc i) (λ k p. f (suc k) (suc-le-suc p)) n ∙ sym (rw (eq_compare x y (f 0 (suc-le-suc zero-le))))
 
-pub order_start : (a b : List ℕ) → reading_order a b ≡ order_from 0 a b
-unfolding order_from
-order_start a b = rw (words_message a, words_message b)
+seven : (a : List ℕ) → length a ≡ 8 → take 7 a ≡ message_key (message_of a)
+seven a h = same_lists _ _ (search (rules, places)) (λ k d h. grind (arith, places))
 
-pub order_done : (k : ℕ) (a b : List ℕ) → 7 ≤ k → order_from k a b ≡ Ordering.eq
-unfolding order_from words compare_keys
-order_done k a b h = let e : 7 - k ≡ 0 = omega arith in rw e
+module _ (a b : List ℕ) (h : length a ≡ 8) (i : length b ≡ 8) where
+  order_is : compare_keys (take 7 a) (take 7 b) ≡ reading_order a b
+  order_is = rw (seven a h, seven b i)
 
-module _ (k : ℕ) (a b : List ℕ) (h : k < 7) where
-  order_at : order_from k a b ≡ or_else (compare (get_or a k 0) (get_or b k 0)) (order_from (k + 1) a b)
-  unfolding order_from words compare_keys
-  order_at = let e : 7 - k ≡ suc (7 - (k + 1)) = omega arith in rw e (simp (get_or-drop, drop-drop, add-zero))
+  pub by_word : (j : ℕ) → j < 7 → ((k : ℕ) → k < j → get_or a k 0 ≡ get_or b k 0) → is_ne (nat_cmp (get_or a j 0) (get_or b j 0)) ≡ true → nat_cmp (get_or a j 0) (get_or b j 0) ≡ answer (reading_order a b)
+  by_word j l f n =
+      let e : get_or (take 7 a) j 0 ≡ get_or a j 0 = get_or-take 7 a j 0 l in
+      let g : get_or (take 7 b) j 0 ≡ get_or b j 0 = get_or-take 7 b j 0 l in
+      rw (← e, ← g) (of_keys j (take 7 a) (take 7 b) (simp length-take (omega arith)) (simp length-take (omega arith))
+      (λ k p. let q : k < 7 = omega arith in rw (get_or-take 7 a k 0 q, get_or-take 7 b k 0 q) (f k p)) (rw (e, g) n) ∙ ap answer order_is)
 
-  pub order_less : get_or a k 0 < get_or b k 0 → order_from k a b ≡ Ordering.lt
-  order_less l = order_at ∙ rw (lt_compare (get_or a k 0) (get_or b k 0) l)
+  pub by_none : ((k : ℕ) → k < 7 → get_or a k 0 ≡ get_or b k 0) → Equal ≡ answer (reading_order a b)
+  by_none f =
+      let e : take 7 a ≡ take 7 b = ext_get_or 0 (take 7 a) (take 7 b) (simp length-take (omega arith)) (λ k p. let q : k < 7 = omega (arith, length-take 7 a) in rw (get_or-take 7 a k 0 q, get_or-take 7 b k 0 q) (f k q)) in
+      ap answer (sym (keys_refl (take 7 a)) ∙ rw (← e) at order_is)
 
-  pub order_more : get_or b k 0 < get_or a k 0 → order_from k a b ≡ Ordering.gt
-  order_more l = order_at ∙ rw (gt_compare (get_or a k 0) (get_or b k 0) l)
+-- ---- what an answer of `cmp` tells of the order
 
-  pub order_next : get_or b k 0 ≤ get_or a k 0 → get_or a k 0 ≤ get_or b k 0 → order_from k a b ≡ order_from (k + 1) a b
-  order_next l m = order_at ∙ rw (eq_compare (get_or a k 0) (get_or b k 0) (omega arith))
+pub is_after : (o : Ordering) → is_gt (answer o) ≡ true → o ≡ Ordering.gt
+is_after Ordering.lt e = cc
+is_after Ordering.eq e = cc
+is_after Ordering.gt e = refl
 
--- ---- the order as a number, as `compare` gives it
+pub not_after : (o : Ordering) → is_gt (answer o) ≡ false → o ≡ Ordering.gt → ⊥
+not_after o e f = let z : ◌≡◌ {A = Bool} true false = cc in let y : ◌≡◌ {A = ℕ} 0 1 = cc in omega arith
 
-abbrev rank : Ordering → ℕ
-rank o = by_order o 0 1 2
+pub is_same : (o : Ordering) → is_eq (answer o) ≡ true → o ≡ Ordering.eq
+is_same Ordering.lt e = cc
+is_same Ordering.eq e = refl
+is_same Ordering.gt e = cc
 
-pub rank_same : (o : Ordering) → rank o ≡ 1 → o ≡ Ordering.eq
-rank_same Ordering.lt e = absurd (omega arith)
-rank_same Ordering.eq e = refl
-rank_same Ordering.gt e = absurd (omega arith)
-
-pub rank_after : (o : Ordering) → rank o ≡ 2 → o ≡ Ordering.gt
-rank_after Ordering.lt e = absurd (omega arith)
-rank_after Ordering.eq e = absurd (omega arith)
-rank_after Ordering.gt e = refl
-
-pub not_after : (r : ℕ) (o : Ordering) → r ≡ rank o → (r ≡ 2 → ⊥) → o ≡ Ordering.gt → ⊥
-not_after r o e n f = n (e ∙ ap rank f)
-
-pub is_before : (o : Ordering) → (o ≡ Ordering.gt → ⊥) → (o ≡ Ordering.eq → ⊥) → o ≡ Ordering.lt
-is_before Ordering.lt f g = refl
-is_before Ordering.eq f g = absurd (g refl)
-is_before Ordering.gt f g = absurd (f refl)
+pub is_before : (o : Ordering) → (o ≡ Ordering.gt → ⊥) → is_eq (answer o) ≡ false → o ≡ Ordering.lt
+is_before Ordering.lt f e = refl
+is_before Ordering.eq f e = cc
+is_before Ordering.gt f e = absurd (f refl)

@@ -1,32 +1,25 @@
 -- The verdict on an arrival, by where the message stands and the count that its entry would have.
-use Prim.Native.Nat.{ℕ, suc, ◌+◌, ◌-◌, ◌≤◌, ◌<◌}
-use mathlib.Core.Path.{◌≡◌, refl, ap, sym, ◌∙◌}
-use mathlib.Core.Bool.{Bool, true, false, cond, not, ◌&&◌}
-use mathlib.Core.List.{List, [], ◌∷◌, ◌++◌}
-use native.Mathlib.Omega.{arith}
-use lib.IntN.{pos}
-use lib.ListN.{length, get_or, take, drop, length-append, length-take, length-drop, take-append-drop}
-use lib.Dec.{eqb}
+use Rattle.std.specs.Prelude.{ℕ, ◌≡◌, refl, Bool, true, false, cond, ◌&&◌, List, [], ◌∷◌, ◌++◌, ◌+◌, ◌-◌, ◌≤◌, map, length, get_or, take, drop, eqb, Option, Some, Ok, Err}
+use Rattle.std.specs.Bool.{then_some}
+use Rattle.std.proofs.Common.{ap, sym, ◌∙◌, arith, length-append, length-take, length-drop, take-append-drop}
+use Rattle.std.proofs.lemmas.List.{length-map}
+use Rattle.std.proofs.Math.Bool.{and_assoc, and-true}
 use borrow.Author.Tests.{eqb-true, eqb-false}
 use Rattle.definition.specs.Lists.{all}
-use Rattle.definition.specs.State.{Entry, entry, arrived, counted}
-use Rattle.definition.specs.BadState.{ok_net}
-use Rattle.laws.specs.Slices.{map_take_length}
+use Rattle.definition.specs.State.{Entry, counted}
+use Rattle.definition.specs.BadState.{ok_net, ok_nets}
+use Rattle.laws.specs.Slices.{map_append, map_take, map_drop}
 use Rattle.laws.specs.Places.{and_true, true_and}
-use Rattle.queue.specs.Rows.{message_of, net_of, entry_of, entries, with_last}
-use Rattle.queue.specs.Queues.{count_at, Placed, Judged, moved, added}
-use Rattle.definition.specs.BadState.{ok_nets}
-use Rattle.queue.proofs.Nets.{net_new, net_new_ok}
-use Rattle.queue.proofs.Arrivals.{New, Again, in_range, gone, kept}
+use Rattle.queue.specs.Rows.{message_of, net_of, entry_of, with_last}
+use Rattle.queue.specs.Queues.{count_at, Found, Judged, moved}
+use Rattle.queue.proofs.Nets.{net_new_ok}
+use Rattle.queue.proofs.Orders.{counts}
+use Rattle.queue.proofs.Arrivals.{new_row, new_many, gone, kept}
 
 nets_append : (a b : List Entry) → ok_nets (a ++ b) ≡ ok_nets a && ok_nets b
 unfolding all
 nets_append [] b = refl
-nets_append (x ∷ a) b = rw (nets_append a b) (assoc (ok_net x.net) (ok_nets a) (ok_nets b))
-  where
-    assoc : (u v w : Bool) → u && (v && w) ≡ (u && v) && w
-    assoc true v w = refl
-    assoc false v w = refl
+nets_append (x ∷ a) b = rw (nets_append a b) (sym (and_assoc (ok_net x.net) (ok_nets a) (ok_nets b)))
 
 nets_parts : (i : ℕ) (l : List Entry) → ok_nets l ≡ true → (ok_nets (take i l) ≡ true) × (ok_nets (drop i l) ≡ true)
 nets_parts i l h = and_true _ _ (sym (nets_append (take i l) (drop i l)) ∙ ap ok_nets (take-append-drop i l) ∙ h)
@@ -36,54 +29,51 @@ unfolding all
 nets_cons x l = refl
 
 nets_with : (a : List Entry) (x : Entry) (b : List Entry) → ok_nets a ≡ true → ok_nets b ≡ true → ok_nets (a ++ x ∷ b) ≡ ok_net x.net
-nets_with a x b p q = nets_append a (x ∷ b) ∙ rw (p, nets_cons x b, q) (by (ok_net x.net))
-  where
-    by : (t : Bool) → t && true ≡ t
-    by true = refl
-    by false = refl
+nets_with a x b p q = nets_append a (x ∷ b) ∙ rw (p, nets_cons x b, q) (and-true (ok_net x.net))
 
-module _ {q : List (List ℕ)} {n i : ℕ} {m : List ℕ} (l : n ≤ length q) (at : Placed q n m i) (anti : Bool) (ok : ok_nets (entries q n) ≡ true) where
-  pub judged_new : New q n m i anti → Judged (counted anti (message_of m) (entries q n)) (n + 1) false
-  unfolding added
-  judged_new e =
-      let w = nets_parts i (entries q n) ok in
-      let z : length (entries q n) ≡ n = map_take_length entry_of q n l in
-      let h = at.fits in
-      rw e
-      (record {
-        rows = simp (length-append, length-take, length-drop) (omega arith);
-        passes = ap not (sym (nets_with (take i (entries q n)) (entry (message_of m) (arrived anti (pos 0))) (drop i (entries q n)) w.0 w.1 ∙ (rw net_new at (net_new_ok anti))));
-      })
+module _ (q : List (List ℕ)) (m : List ℕ) (i : ℕ) (anti : Bool) (ok : ok_nets (map entry_of q) ≡ true) where
+  -- the entries before place k and from there on
+  parts : (k : ℕ) → (ok_nets (map entry_of (take k q)) ≡ true) × (ok_nets (map entry_of (drop k q)) ≡ true)
+  parts k = rw (map_take entry_of k q, map_drop entry_of k q) (nets_parts k (map entry_of q) ok)
 
-  module _ {c : ℕ} (ne : i ≡ n → ⊥) (e : Again q n m i anti) (s : c ≡ moved anti (count_at q i)) where
-    judged_gone : c ≡ 256 → Judged (counted anti (message_of m) (entries q n)) (n - 1) false
-    judged_gone g =
-        let u = nets_parts i (entries q n) ok in
-        let v = nets_parts (suc i) (entries q n) ok in
-        let z : length (entries q n) ≡ n = map_take_length entry_of q n l in
-        let h : i < n = omega (arith, at.fits) in
-        rw (e ∙ gone q n i anti h l (in_range l at ok ne).0 (sym s ∙ g))
-        (record {
-          rows = simp (length-append, length-take, length-drop) (omega arith);
-          passes = ap not (sym (nets_append (take i (entries q n)) (drop (suc i) (entries q n)) ∙ true_and u.0 v.1));
-        })
+  nets_around : (e : List ℕ) (k : ℕ) → ok_nets (map entry_of (take i q ++ e ∷ drop k q)) ≡ ok_net (entry_of e).net
+  nets_around e k = rw (map_append entry_of (take i q) (e ∷ drop k q)) (nets_with (map entry_of (take i q)) (entry_of e) (map entry_of (drop k q)) (parts i).0 (parts k).1)
 
-    judged_kept : (c ≡ 256 → ⊥) → Judged (counted anti (message_of m) (entries q n)) n (not (ok_net (net_of c)))
-    judged_kept g =
-        let u = nets_parts i (entries q n) ok in
-        let v = nets_parts (suc i) (entries q n) ok in
-        let x = entry_of (with_last (get_or q i []) (moved anti (count_at q i))) in
-        let z : length (entries q n) ≡ n = map_take_length entry_of q n l in
-        let h : i < n = omega (arith, at.fits) in
-        rw (e ∙ kept q n i anti h l (in_range l at ok ne).0 (λ f. g (s ∙ f)), s)
-        (record {
-          rows = simp (length-append, length-take, length-drop) (omega arith);
-          passes = ap not (sym (nets_with (take i (entries q n)) x (drop (suc i) (entries q n)) u.0 v.1));
-        })
+  pub judged_new : Found q m (Err i) → Judged (length q) (counted anti (message_of m) (map entry_of q)) (Some (length q + 1))
+  judged_new f = rw (f.1 anti) (rw (new_row q i anti m) (nets_around (with_last m (moved anti 256)) i ∙ net_new_ok anti), sym (new_many q i anti m f.0))
 
-    pub judged_again : (r : ℕ) (b : Bool) → r ≡ cond (eqb c 256) (n - 1) n → b ≡ cond (eqb c 256) false (not (ok_net (net_of c))) → Judged (counted anti (message_of m) (entries q n)) r b
-    judged_again r b f g = go (eqb c 256) refl f g
+  module _ (f : Found q m (Ok i)) where
+    abbrev c : ℕ
+    c = moved anti (count_at q i)
+
+    low : 1 ≤ count_at q i
+    low = (counts q ok i f.0).0
+
+    abbrev verdict : Option ℕ
+    verdict = cond (eqb c 256) (Some (length q - 1)) (then_some (ok_net (net_of c)) (length q))
+
+    judged_gone : c ≡ 256 → Judged (length q) (counted anti (message_of m) (map entry_of q)) (Some (length q - 1))
+    judged_gone e = rw (f.1 anti, gone q i anti low e) (
+      rw (map_append entry_of (take i q) (drop (i + 1) q)) (nets_append (map entry_of (take i q)) (map entry_of (drop (i + 1) q)) ∙ true_and (parts i).0 (parts (i + 1)).1),
+      simp (length-map, length-append, length-take, length-drop) (omega (arith, f.0)),
+    )
+
+    judged_kept : (c ≡ 256 → ⊥) → (t : Bool) → ok_net (net_of c) ≡ t → Judged (length q) (counted anti (message_of m) (map entry_of q)) (then_some t (length q))
+    judged_kept n t e = rw (f.1 anti, kept q i anti low n) (go t (nets_around (with_last (get_or q i []) c) (i + 1) ∙ e))
       where
-        go : (t : Bool) → eqb c 256 ≡ t → r ≡ cond t (n - 1) n → b ≡ cond t false (not (ok_net (net_of c))) → Judged (counted anti (message_of m) (entries q n)) r b
-        go true k f g = rw (f, g) (judged_gone (eqb-true c 256 k))
-        go false k f g = rw (f, g) (judged_kept (eqb-false c 256 k))
+        rows : List (List ℕ)
+        rows = take i q ++ with_last (get_or q i []) c ∷ drop (i + 1) q
+
+        many : length (map entry_of rows) ≡ length q
+        many = simp (length-map, length-append, length-take, length-drop) (omega (arith, f.0))
+
+        go : (t : Bool) → ok_nets (map entry_of rows) ≡ t → Judged (length q) (map entry_of rows) (then_some t (length q))
+        go true h = (h, sym many)
+        go false h = (h, many)
+
+    pub judged_again : Judged (length q) (counted anti (message_of m) (map entry_of q)) verdict
+    judged_again = go (eqb c 256) refl
+      where
+        go : (t : Bool) → eqb c 256 ≡ t → Judged (length q) (counted anti (message_of m) (map entry_of q)) (cond t (Some (length q - 1)) (then_some (ok_net (net_of c)) (length q)))
+        go true e = judged_gone (eqb-true c 256 e)
+        go false e = judged_kept (eqb-false c 256 e) (ok_net (net_of c)) refl

@@ -1,13 +1,11 @@
 -- What the functions over rows promise and ask for, in the words of `definition`: each speaks of the lists that the rows say.
 use Prim.Native.Nat.{ℕ, suc, ◌+◌, ◌-◌, ◌≤◌, ◌<◌, Ordering}
-use Rattle.std.specs.Prelude.{◌≡◌, Bool, true, false, cond, not, ◌&&◌, List, [], ◌∷◌, ◌++◌, map, leb, ltb, eqb, pos, length, get_or, take, drop}
+use Rattle.std.specs.Prelude.{◌≡◌, Bool, true, false, cond, ◌&&◌, List, [], ◌∷◌, ◌++◌, map, leb, ltb, eqb, pos, length, get_or, take, drop, Option, None, Some, Result, Ok, Err}
 use Rattle.definition.specs.Lists.{keep, compare_keys}
 use Rattle.definition.specs.Message.{Message, message_key}
-use Rattle.definition.specs.State.{Entry, entry, arrived, is_zero, positive, reads_at}
+use Rattle.definition.specs.State.{Entry, entry, arrived, is_zero, positive, reads_at, counted}
 use Rattle.definition.specs.BadState.{ok_nets}
 use Rattle.queue.specs.Rows.{message_of, entry_of}
-
--- ---- what is asked for
 
 -- ---- what a function leaves
 
@@ -22,25 +20,25 @@ pub record Holds {A : Type 0} (held : ℕ → List A) (r : ℕ) (l : List A) : T
 abbrev pub reading_order : List ℕ → List ℕ → Ordering
 reading_order a b = compare_keys (message_key (message_of a)) (message_key (message_of b))
 
--- of the first n rows of q the first i are read before m, and the one after them is not
-pub record Placed (q : List (List ℕ)) (n : ℕ) (m : List ℕ) (i : ℕ) : Type 0 where
-  pub fits : i ≤ n
+-- of the rows q the first i are read before m, and the one after them is not
+pub record Placed (q : List (List ℕ)) (m : List ℕ) (i : ℕ) : Type 0 where
+  pub fits : i ≤ length q
   pub first : (k : ℕ) → k < i → reading_order m (get_or q k []) ≡ Ordering.gt
-  pub last : i < n → reading_order m (get_or q i []) ≡ Ordering.gt → ⊥
+  pub last : i < length q → reading_order m (get_or q i []) ≡ Ordering.gt → ⊥
 
--- of the first n rows of q the one before place k has a word w below t, and the one at k has not
-pub record Cut (w : ℕ) (q : List (List ℕ)) (n t k : ℕ) : Type 0 where
-  pub fits : k ≤ n
+-- of the rows q the one before place k has a word w below t, and the one at k has not
+pub record Cut (w : ℕ) (q : List (List ℕ)) (t k : ℕ) : Type 0 where
+  pub fits : k ≤ length q
   pub last : 0 < k → get_or (get_or q (k - 1) []) w 0 < t
-  pub next : k < n → t ≤ get_or (get_or q k []) w 0
+  pub next : k < length q → t ≤ get_or (get_or q k []) w 0
 
--- of what the first n rows of q say the first k have a time before t, and no other has
-pub record Parted {A : Type 0} (said : List ℕ → A) (time : A → ℕ) (q : List (List ℕ)) (n t k : ℕ) : Type 0 where
-  pub fits : k ≤ n
-  pub before : map said (take k q) ≡ keep (λ (x : A). ltb (time x) t) (map said (take n q))
-  pub after : map said (drop k (take n q)) ≡ keep (λ (x : A). leb t (time x)) (map said (take n q))
-  pub many_before : k ≡ length (keep (λ (x : A). ltb (time x) t) (map said (take n q)))
-  pub many_after : n - k ≡ length (keep (λ (x : A). leb t (time x)) (map said (take n q)))
+-- of what the rows q say the first k have a time before t, and no other has
+pub record Parted {A : Type 0} (said : List ℕ → A) (time : A → ℕ) (q : List (List ℕ)) (t k : ℕ) : Type 0 where
+  pub fits : k ≤ length q
+  pub before : map said (take k q) ≡ keep (λ (x : A). ltb (time x) t) (map said q)
+  pub after : map said (drop k q) ≡ keep (λ (x : A). leb t (time x)) (map said q)
+  pub many_before : k ≡ length (keep (λ (x : A). ltb (time x) t) (map said q))
+  pub many_after : length q - k ≡ length (keep (λ (x : A). leb t (time x)) (map said q))
 
 -- the time by which an output queue is parted, and that of an input queue
 abbrev pub sent_at : Message → ℕ
@@ -69,10 +67,16 @@ recounted anti i l =
 unfoldable pub added : Bool → ℕ → Message → List Entry → List Entry
 added anti i m l = take i l ++ entry m (arrived anti (pos 0)) ∷ drop i l
 
--- an arrival judged before it is made: how many entries there would be, and whether a net count would pass its bound
-pub record Judged (l : List Entry) (r : ℕ) (b : Bool) : Type 0 where
-  pub rows : r ≡ length l
-  pub passes : b ≡ not (ok_nets l)
+-- where the message of row m stands in the queue that the rows q hold: its entry, which an arrival counts once more, or else the place where it is new
+abbrev pub Found : List (List ℕ) → List ℕ → Result ℕ ℕ → Type 0
+Found q m (Ok i) = (i < length q) × ((anti : Bool) → counted anti (message_of m) (map entry_of q) ≡ recounted anti i (map entry_of q))
+Found q m (Err i) = (i ≤ length q) × ((anti : Bool) → counted anti (message_of m) (map entry_of q) ≡ added anti i (message_of m) (map entry_of q))
+
+-- an arrival judged before it is made, which would leave the queue l where there are n entries: how many there would be, or that a net count would
+-- pass its bound
+abbrev pub Judged : ℕ → List Entry → Option ℕ → Type 0
+Judged n l None = (ok_nets l ≡ false) × (length l ≡ n)
+Judged n l (Some r) = (ok_nets l ≡ true) × (r ≡ length l)
 
 -- ---- an event
 
@@ -80,6 +84,10 @@ pub record Judged (l : List Entry) (r : ℕ) (b : Bool) : Type 0 where
 abbrev pub is_read : ℕ → Entry → Bool
 is_read t e = eqb e.message.received t && positive e.net
 
--- what an event at time t still reads from row i of the first n rows on
-abbrev pub reads_from : ℕ → List (List ℕ) → ℕ → ℕ → List Message
-reads_from t q n i = reads_at t (map entry_of (drop i (take n q)))
+-- what an event at time t still reads from row i of the rows q on
+abbrev pub reads_from : ℕ → List (List ℕ) → ℕ → List Message
+reads_from t q i = reads_at t (map entry_of (drop i q))
+
+-- this entry is unread after time t
+abbrev pub is_unread : ℕ → Entry → Bool
+is_unread t e = ltb t e.message.received && positive e.net

@@ -1,12 +1,12 @@
-// One row and its words, rows that are put down or move within their memory, and where a time cuts them in two.
-ghost use Rattle.std.specs.Prelude.{◌≡◌, [], ◌∷◌, ◌++◌, ℕ, ◌+◌, ◌-◌, ◌≤◌, ◌<◌, length, get_or, take, drop};
-ghost use Rattle.std.proofs.Math.Seq.{paste};
+// One row and its words, rows that move within their memory, and where a time cuts them in two.
+ghost use Rattle.std.specs.Prelude.{◌≡◌, [], ◌∷◌, ◌++◌, ◌+◌, ◌-◌, ◌≤◌, ◌<◌, length, take, drop};
 ghost use Rattle.definition.specs.State.{by_order};
 ghost use Rattle.queue.specs.Rows.{message_of, message_from, with_last};
 ghost use Rattle.queue.specs.Queues.{reading_order, Cut};
 
 use definition::Time;
 use definition::lent::Row;
+use std::cmp::Ordering;
 
 // The words of a row: a message in the reading order, and one word more.
 pub const RECEIVED: usize = 0;
@@ -24,13 +24,6 @@ pub const VALUE: usize = 5;
 pub const RECEIVER: usize = 6;
 
 pub const LAST: usize = 7;
-
-// How one message stands to another in the reading order.
-pub const BEFORE: u32 = 0;
-
-pub const SAME: u32 = 1;
-
-pub const AFTER: u32 = 2;
 
 // A message as a row, the last word 0.
 pub fn message(
@@ -51,53 +44,31 @@ pub fn message(
 pub fn with_last(e: Row, w: u32) -> Row
     ensures { result ≡ with_last e w }
 {
-    [
-        e[RECEIVED],
-        e[SENT],
-        e[SENDER],
-        e[ORDINAL],
-        e[KIND],
-        e[VALUE],
-        e[RECEIVER],
-        w,
-    ]
+    let [received, sent, sender, ordinal, kind, value, receiver, _] = e;
+    [received, sent, sender, ordinal, kind, value, receiver, w]
 }
 
-// How the message of a stands to that of b: by all seven words.
-pub fn compare(a: Row, b: Row) -> u32
-    ensures { result ≡ by_order (reading_order a b) 0 1 2 }
+// How the message of a stands to that of b in the reading order: by the first of the seven words that differs. The slices' own `cmp` passes over long
+// equal runs first, and takes twice as long where the first word decides.
+pub fn compare(a: Row, b: Row) -> Ordering
+    ensures { result ≡ by_order (reading_order a b) Ordering.Less Ordering.Equal Ordering.Greater }
 {
-    let mut k: usize = 0;
-    while k < LAST {
-        let x = a[k];
-        let y = b[k];
-        if x < y {
-            return BEFORE;
+    for k in 0..LAST {
+        let order = a[k].cmp(&b[k]);
+        if order.is_ne() {
+            return order;
         }
-        if y < x {
-            return AFTER;
-        }
-        k = k + 1;
     }
-    SAME
+    Ordering::Equal
 }
 
-// The last place in the first n rows where a word passes t: in the row before it the word is below t, in the row at it not. Where the word does
-// not fall from row to row, so many rows are below t.
-pub fn below(q: &[Row], n: usize, word: usize, t: Time) -> usize
-    requires n_in_bounds { n ≤ length q.now }
-    requires word_bound { word < 8 }
-    ensures { Cut word q.now n t result }
+// The last place in the rows where a word passes t: in the row before it the word is below t, in the row at it not. Where the word does not
+// fall from row to row, so many rows are below t.
+pub fn below(q: &[Row], word: usize, t: Time) -> usize
+    requires { word < 8 }
+    ensures { Cut word q.now t result }
 {
-    let mut i = n;
-    while 0 < i {
-        let e = q[i - 1];
-        if e[word] < t {
-            return i;
-        }
-        i = i - 1;
-    }
-    0
+    q.iter().rposition(|e| e[word] < t).map_or(0, |i| i + 1)
 }
 
 // The row e with the last word w, after the first n rows.
@@ -108,26 +79,29 @@ pub fn put(q: &mut [Row], n: usize, e: Row, w: u32)
     q[n] = with_last(e, w);
 }
 
-// Rows from, from + 1 .. , count of them, move down to the places to, to + 1 ..
-pub fn down(q: &mut [Row], to: usize, from: usize, count: usize)
-    requires { (to ≤ from) × (from + count ≤ length q.old) }
-    ensures { q.new ≡ paste q.old to (drop from q.old) count }
+// The row e at place i of n rows; those from i on move up.
+#[tactic(auto, using(laws::specs::Moves::inserted))]
+pub(crate) fn insert(q: &mut [Row], n: usize, i: usize, e: Row)
+    requires { (i ≤ n) × (n < length q.old) }
+    ensures { take (n + 1) q.new ≡ take i (take n q.old) ++ e ∷ drop i (take n q.old) }
 {
-    let mut j: usize = 0;
-    while j < count {
-        q[to + j] = q[from + j];
-        j = j + 1;
-    }
+    q.copy_within(i..n, i + 1);
+    q[i] = e;
 }
 
-// The same upwards, the last one first.
-pub fn up(q: &mut [Row], to: usize, from: usize, count: usize)
-    requires { (from ≤ to) × (to + count ≤ length q.old) }
-    ensures { q.new ≡ paste q.old to (drop from q.old) count }
+// Row i of n leaves; those after it move down.
+pub(crate) fn remove(q: &mut [Row], n: usize, i: usize)
+    requires { (i < n) × (n ≤ length q.old) }
+    ensures { take (n - 1) q.new ≡ take i (take n q.old) ++ drop (i + 1) (take n q.old) }
 {
-    let mut j = count;
-    while 0 < j {
-        j = j - 1;
-        q[to + j] = q[from + j];
-    }
+    q.copy_within(i + 1..n, i);
+}
+
+// The first k of n rows leave; the others move to the front. So each queue drops what its own search has found to be before a time.
+#[tactic(auto, using(laws::specs::Moves::shifted))]
+pub(crate) fn drop_front(q: &mut [Row], n: usize, k: usize)
+    requires { (k ≤ n) × (n ≤ length q.old) }
+    ensures { take (n - k) q.new ≡ drop k (take n q.old) }
+{
+    q.copy_within(k..n, 0);
 }

@@ -1,5 +1,5 @@
 // Messages in transit: rows in the order in which they joined it, the last word 0 for an antimessage and 1 for a message.
-ghost use Rattle.std.specs.Prelude.{◌≡◌, [], ◌∷◌, ◌++◌, map, ◌+◌, ◌-◌, ◌≤◌, ◌<◌, min, length, take, drop};
+ghost use Rattle.std.specs.Prelude.{◌≡◌, [], ◌∷◌, ◌++◌, map, ◌+◌, ◌-◌, ◌≤◌, ◌<◌, length};
 ghost use Rattle.definition.specs.State.{plus, minus, without};
 ghost use Rattle.definition.specs.Calls.{least_mail};
 ghost use Rattle.queue.specs.Rows.{message_of, mail_of, mails};
@@ -13,6 +13,7 @@ use definition::numbers::NEVER;
 // The last word of a row: its sign.
 const SIGN: usize = LAST;
 
+// Two words of a lent row, which a host in C reads too, and so numbers.
 const ANTIMESSAGE: u32 = 0;
 
 const MESSAGE: u32 = 1;
@@ -32,17 +33,13 @@ pub fn append(tr: &mut [Row], n: usize, m: Row)
     rows::put(tr, n, m, MESSAGE);
 }
 
-// The antimessages of the rows k .. end of an output queue join the end, in their order.
-pub fn cancel(tr: &mut [Row], n: usize, o: &[Row], k: usize, end: usize)
-    requires k_le_end { (k ≤ end) × (end ≤ length o.now) }
-    requires k_in_bounds { n + (end - k) ≤ length tr.old }
-    ensures { mails tr.new (n + (end - k)) ≡ mails tr.old n ++ map minus (map message_of (drop k (take end o.now))) }
+// The antimessages of these rows of an output queue join the end, in their order.
+pub fn cancel(tr: &mut [Row], n: usize, cancelled: &[Row])
+    requires { n + length cancelled.now ≤ length tr.old }
+    ensures { mails tr.new (n + length cancelled.now) ≡ mails tr.old n ++ map minus (map message_of cancelled.now) }
 {
-    let mut j: usize = 0;
-    while j < end - k {
-        let e = o[k + j];
-        rows::put(tr, n + j, e, ANTIMESSAGE);
-        j = j + 1;
+    for (j, m) in cancelled.iter().enumerate() {
+        rows::put(tr, n + j, *m, ANTIMESSAGE);
     }
 }
 
@@ -51,39 +48,22 @@ pub fn remove(tr: &mut [Row], n: usize, i: usize)
     requires { (i < n) × (n ≤ length tr.old) }
     ensures { mails tr.new (n - 1) ≡ without i (mails tr.old n) }
 {
-    rows::down(tr, i, i + 1, n - i - 1);
+    rows::remove(tr, n, i);
 }
 
-// A delivery: the one at place i leaves, and then the antimessages of the rows k .. end of an output queue join the end.
-pub fn exchange(tr: &mut [Row], n: usize, i: usize, o: &[Row], k: usize, end: usize)
-    requires i_lt_n { (i < n) × (n ≤ length tr.old) }
-    requires k_le_end { (k ≤ end) × (end ≤ length o.now) }
-    requires k_in_bounds { n - 1 + (end - k) ≤ length tr.old }
-    ensures { mails tr.new (n - 1 + (end - k)) ≡ without i (mails tr.old n) ++ map minus (map message_of (drop k (take end o.now))) }
+// A delivery: the one at place i leaves, and then the antimessages of these rows of an output queue join the end.
+pub fn exchange(tr: &mut [Row], n: usize, i: usize, cancelled: &[Row])
+    requires place { (i < n) × (n ≤ length tr.old) }
+    requires room { n - 1 + length cancelled.now ≤ length tr.old }
+    ensures { mails tr.new (n - 1 + length cancelled.now) ≡ without i (mails tr.old n) ++ map minus (map message_of cancelled.now) }
 {
     remove(tr, n, i);
-    cancel(tr, n - 1, o, k, end);
-}
-
-// The receive time of a row, of either sign, or a time that is lower.
-fn lower(e: Row, best: Time) -> Time
-    ensures { result ≡ min (message_of e).received best }
-{
-    let t = e[RECEIVED];
-    if t < best { t } else { best }
+    cancel(tr, n - 1, cancelled);
 }
 
 // The least receive time, of messages and antimessages, or "never".
-pub fn least(tr: &[Row], n: usize) -> Time
-    requires { n ≤ length tr.now }
-    ensures { result ≡ least_mail (mails tr.now n) }
+pub fn least(tr: &[Row]) -> Time
+    ensures { result ≡ least_mail (map mail_of tr.now) }
 {
-    let mut best: Time = NEVER;
-    let mut i = n;
-    while 0 < i {
-        let e = tr[i - 1];
-        best = lower(e, best);
-        i = i - 1;
-    }
-    best
+    tr.iter().map(|e| e[RECEIVED]).min().unwrap_or(NEVER)
 }

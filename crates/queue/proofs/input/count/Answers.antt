@@ -1,25 +1,14 @@
--- By where the message stands: past the end, at an entry of its own, or before another.
-use native.Mathlib.Omega.{arith}
-use Rattle.queue.proofs.Arrivals.{new_last, new_between, again, room, in_range}
+-- What was found among the first n rows.
+use Rattle.std.proofs.Common.{◌<◌, [], ap, ◌∙◌, length, take, get_or-take, arith, length-take}
+use Rattle.queue.proofs.Orders.{counts}
+use Rattle.queue.proofs.Arrivals.{new_many}
 use Rattle.queue.proofs.input.count.Goals as goal
 
-pub add-requires : goal.add-requires
-add-requires c = let at = c.place-i.ensures in record { n_in_bounds = room c.requires.n_in_bounds at c.args.anti (new_last c.requires.n_in_bounds at c.args.anti c.if-i-n.true) c.requires.n_in_bounds_2; i_le_n = at.fits }
+pub recount-requires-clause-bound : goal.recount-requires-clause-bound
+recount-requires-clause-bound c = let a = c.args in let h = rw c.in-Ok.is at c.find.ensures in
+    let b : c.in-Ok.i < a.n = omega (arith, h.0, length-take a.n a.q.now) in
+    rw (get_or-take a.n a.q.now c.in-Ok.i [] b) at (counts (take a.n a.q.now) c.requires.nets c.in-Ok.i h.0)
 
-pub returns-then-i-n : goal.returns-then-i-n
-returns-then-i-n c = let at = c.place-i.ensures in
-    rw (new_last c.requires.n_in_bounds at c.args.anti c.if-i-n.true) c.add.ensures
-
-pub recount-requires : goal.recount-requires
-recount-requires c = let at = c.place-i.ensures in record { n_in_bounds = c.requires.n_in_bounds; i_lt_n = omega (arith, at.fits); bound = in_range c.requires.n_in_bounds at c.requires.n_value_2 c.if-i-n.false }
-
-pub returns-then-compare-eq-SAME : goal.returns-then-compare-eq-SAME
-returns-then-compare-eq-SAME c = let at = c.place-i.ensures in
-    rw (again c.requires.n_in_bounds at c.args.anti c.compare.ensures c.if-i-n.false c.if-compare-eq-SAME.true) c.recount.ensures
-
-pub add-requires-2 : goal.add-requires-2
-add-requires-2 c = let at = c.place-i.ensures in record { n_in_bounds = room c.requires.n_in_bounds at c.args.anti (new_between c.requires.n_in_bounds at c.args.anti c.compare.ensures c.if-compare-eq-SAME.false) c.requires.n_in_bounds_2; i_le_n = at.fits }
-
-pub returns : goal.returns
-returns c = let at = c.place-i.ensures in
-    rw (new_between c.requires.n_in_bounds at c.args.anti c.compare.ensures c.if-compare-eq-SAME.false) c.add-2.ensures
+pub add-requires-clause-room : goal.add-requires-clause-room
+add-requires-clause-room c = let a = c.args in let h = rw c.in-Err.is at c.find.ensures in
+    omega (arith, length-take a.n a.q.now, c.requires.fits, c.requires.room, ap length (h.1 a.anti) ∙ new_many (take a.n a.q.now) c.in-Err.i a.anti a.m h.0)

@@ -1,20 +1,17 @@
-use mathlib.Core.Path.{◌≡◌, refl, sym, ◌∙◌}
-use native.Mathlib.Omega.{arith}
-use borrow.Author.Rules.{rules}
-use Rattle.queue.proofs.Least.{unread_none, unread_skip, unread_here}
+-- What the search found is the first unread row.
+use Rattle.std.proofs.Common.{rules, ℕ, List, ◌≡◌, get_or}
+use Rattle.std.specs.Option.{MatchOption}
+use Rattle.std.proofs.lemmas.Iterator.{YieldsList-from_slice}
+use Rattle.std.proofs.lemmas.Iterator.Search.{find_from_yields_List}
+use Rattle.definition.specs.Message.{never}
+use Rattle.queue.specs.Rows.{entry_of}
+use Rattle.queue.specs.Queues.{is_unread}
+use Rattle.queue.proofs.Orders.{received_rises}
+use Rattle.queue.proofs.Least.{unread_first}
 use Rattle.queue.proofs.input.unread.Goals as goal
 
-pub loop-k-init : goal.loop-k-init
-loop-k-init c = (search rules, refl)
-
-pub returns-then-is_unread : goal.returns-then-is_unread
-returns-then-is_unread c = let a = c.args in let o = c.loop-k in let w = c.word-t.ensures in
-    w.0 ∙ unread_here a.after a.q.now a.n o.k c.requires.n_in_bounds c.loop-k-test.true c.requires.n_value w.1 (rw w.0 at (sym c.is_unread.ensures ∙ c.if-is_unread.true)) ∙ sym o.invariant.1
-
-pub loop-k-preserved : goal.loop-k-preserved
-loop-k-preserved c = let a = c.args in let o = c.loop-k in let w = c.word-t.ensures in
-    (search rules, o.invariant.1 ∙ unread_skip a.after a.q.now a.n o.k c.requires.n_in_bounds c.loop-k-test.true (rw w.0 at (sym c.is_unread.ensures ∙ c.if-is_unread.false)))
-
 pub returns : goal.returns
-returns c = let a = c.args in let o = c.loop-k in let z : o.k ≡ a.n = omega (arith, o.invariant.0) in
-    unread_none a.after a.q.now a.n c.requires.n_in_bounds ∙ sym (rw z at o.invariant.1)
+returns c = let q = c.args.q.now in let x = c.map_or.result in
+    let found = find_from_yields_List (λ (r : List ℕ). is_unread c.args.after (entry_of r)) _ _ c.find.result c.find.ensures.ran (YieldsList-from_slice q cc) (λ x b q k. search rules) in
+    let told : MatchOption c.find.result (x ≡ never) (λ b. x ≡ get_or b.now 0 0) = search rules in
+    unread_first c.args.after q (received_rises q c.requires) c.find.result x found told (search rules)

@@ -1,12 +1,9 @@
--- The rows after i move down by one.
-use Prim.Native.Nat.{ℕ, ◌-◌}
-use mathlib.Core.Path.{ap, ◌∙◌}
-use mathlib.Core.List.{List}
-use lib.ListN.{take}
-use Rattle.laws.specs.Moves.{removed}
-use Rattle.queue.proofs.Joins.{removed_said}
+-- What the rows around it say stays.
+use Rattle.std.proofs.Common.{ap, ◌∙◌, ◌+◌, map, take, drop, add-one}
+use Rattle.laws.specs.Slices.{map_append, map_take, map_drop}
+use Rattle.queue.specs.Rows.{mail_of}
 use Rattle.queue.proofs.transit.remove.Goals as goal
 
 pub returns : goal.returns
-returns c = let a = c.args in
-    removed_said c.down.new.q a.tr.now a.n a.i (ap (λ (l : List (List ℕ)). take (a.n - 1) l) c.down.ensures ∙ removed a.tr.now a.n a.i c.requires.0 c.requires.1)
+returns c = let a = c.args in let r = take a.n a.tr.now in
+    ap (map mail_of) c.remove.ensures ∙ map_append mail_of (take a.i r) (drop (a.i + 1) r) ∙ rw (map_take mail_of a.i r, map_drop mail_of (a.i + 1) r, add-one a.i)
