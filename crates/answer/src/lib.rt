@@ -8,34 +8,22 @@ ghost use Rattle.answer.specs.Search.{found_for};
 
 use definition::Stand;
 use definition::lent::Rules;
-use found::Found;
-
-fn size(x: u32) -> usize
-    ensures { result ≡ x }
-{
-    x as usize
-}
+use rule::Decoded;
 
 // The rule of a process for a mode and a kind: none for a process not in the model.
-pub fn find(model: &[Rules], process: usize, mode: u32, kind: u32) -> Found
+pub fn find(model: &[Rules], process: usize, mode: u32, kind: u32) -> Option<Decoded>
     ensures { result ≡ found_for model.now process mode kind }
 {
-    if size(table::processes(model)) <= process {
-        return Found::Nothing;
+    if table::processes(model) as usize <= process {
+        return None;
     }
-    if model.len() <= process {
-        return Found::Nothing;
-    }
-    found::find_among(table::rules(&model[process]), mode, kind)
+    let rows = model.get(process)?;
+    found::find_among(table::rules(rows), mode, kind)
 }
 
 // Where a process stands after one message. With no rule for it nothing changes.
 pub fn apply(model: &[Rules], process: usize, stand: Stand, kind: u32, value: u32) -> Stand
     ensures { result ≡ stand_after (first_rule (setup (model_of model.now) process).rules stand.mode kind) stand value }
 {
-    let found = find(model, process, stand.mode, kind);
-    match found {
-        Found::Rule(rule) => effect::after(rule, stand, value),
-        Found::Nothing => stand,
-    }
+    find(model, process, stand.mode, kind).map_or(stand, |rule| effect::after(rule, stand, value))
 }

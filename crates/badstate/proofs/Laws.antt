@@ -2,87 +2,23 @@
 use mathlib.Core.Path.{◌≡◌, refl, sym, ap, ◌∙◌}
 use mathlib.Core.Bool.{Bool, true, false, not, ◌&&◌}
 use mathlib.Core.List.{List}
-use Prim.Native.Nat.{ℕ, zero, suc, ◌+◌, ◌-◌, ◌≤◌, ◌<◌}
-use native.Mathlib.Omega.{arith}
+use Prim.Native.Nat.{ℕ, zero, suc, ◌≤◌, ◌<◌}
 use native.Mathlib.Nat.{zero-add}
 use lib.Dec.{leb, eqb}
-use lib.ListN.{length, take, drop, length-map, length-take}
+use lib.ListN.{length}
 use borrow.Author.Tests.{eq-eqb, leb-true, le-leb, not-true, not-false}
 use Rattle.definition.specs.Lists.{all}
-use Rattle.definition.specs.Message.{output_key}
-use Rattle.definition.specs.Model.{ok_stand, ok_model}
+use Rattle.definition.specs.Model.{ok_model}
 use Rattle.definition.specs.State.{Process}
-use Rattle.definition.specs.BadState.{ok_entry, ok_output, ok_saved, ok_process, ok_processes, ok_mail, bad}
+use Rattle.definition.specs.BadState.{ok_process, ok_processes, ok_mail, bad}
 use Rattle.laws.specs.Places.{and_true, true_and}
-use Rattle.laws.specs.Walks.{walked}
-use Rattle.queue.specs.Rows.{entry_of, message_of, mails}
-use Rattle.definition.specs.State.{entry_key}
-use Rattle.history.specs.Rows.{saved_of}
+use Rattle.queue.specs.Rows.{mails}
 use Rattle.rule.specs.Rows.{processes_of, model_of, lawful_model, shaped_model}
-use Rattle.ranges.specs.Keys.{saved_key}
-use Rattle.memory.specs.Memory.{Memory, Rows, number, process_of, process_at, whole, state_of, shaped_at, shaped, lawful, listed, all_of}
-use Rattle.memory.specs.Laws.{ShapeAt, shape_at, at_shape, shape, all_of_at, at_all_of, model_count, mail_count, process_count, lawful_shape}
-use Rattle.badstate.specs.Parts.{alone, lawful_process, lawful_at, ok_numbers, lawful_whole}
-
--- ---- one process
-
-pub process_yes : (n h p : ℕ) (own inputs outputs : Rows) (b : Bool) → shaped_at (alone own inputs outputs) 0 ≡ true → b ≡ ok_process n h p (process_of own inputs outputs) → b ≡ lawful_process n h p own inputs outputs
-unfolding lawful_process
-process_yes n h p own inputs outputs b s e = rw s e
-
-pub process_no : (n h p : ℕ) (own inputs outputs : Rows) → shaped_at (alone own inputs outputs) 0 ≡ false → false ≡ lawful_process n h p own inputs outputs
-unfolding lawful_process
-process_no n h p own inputs outputs s = rw s
-
-module _ (n h p : ℕ) (own inputs outputs : Rows) (s : shaped_at (alone own inputs outputs) 0 ≡ true) where
-  abbrev pr : Process
-  pr = process_of own inputs outputs
-
-  few : ShapeAt (alone own inputs outputs) 0
-  few = shape_at (alone own inputs outputs) 0 s
-
-  few_entries : leb (length pr.input) 64 ≡ true
-  few_entries = le-leb (length pr.input) 64 (rw (length-map (take (number own 0) inputs) entry_of, length-take) (omega (arith, few.entries)))
-
-  few_outputs : leb (length pr.output) 64 ≡ true
-  few_outputs = le-leb (length pr.output) 64 (rw (length-map (take (number own 1) outputs) message_of, length-take) (omega (arith, few.sends)))
-
-  few_events : leb (length pr.history) 32 ≡ true
-  few_events = le-leb (length pr.history) 32 (rw (length-map (take (number own 2) (drop 1 own)) saved_of, length-take) (omega (arith, few.events)))
-
-  pub base_no : ok_stand pr.base ≡ false → false ≡ ok_process n h p pr
-  unfolding ok_process
-  base_no e = rw e
-
-  module _ (b : ok_stand pr.base ≡ true) where
-    pub entries_no : walked (ok_entry n h p) entry_key pr.input ≡ false → false ≡ ok_process n h p pr
-    unfolding ok_process
-    entries_no e = rw (b, few_entries, e)
-
-    module _ (i : walked (ok_entry n h p) entry_key pr.input ≡ true) where
-      pub outputs_no : walked (ok_output n p pr.history) output_key pr.output ≡ false → false ≡ ok_process n h p pr
-      unfolding ok_process
-      outputs_no e = rw (b, few_entries, i, few_outputs, e)
-
-      pub events_last : (r : Bool) → walked (ok_output n p pr.history) output_key pr.output ≡ true → r ≡ walked (ok_saved h) saved_key pr.history → r ≡ ok_process n h p pr
-      unfolding ok_process
-      events_last r o e = rw (b, few_entries, i, few_outputs, o, few_events) e
+use Rattle.memory.specs.Memory.{Memory, Rows, number, process_at, whole, state_of, shaped_at, shaped, lawful, listed, all_of}
+use Rattle.memory.specs.Laws.{at_shape, shape, all_of_at, at_all_of, model_count, mail_count, process_count, lawful_shape}
+use Rattle.badstate.specs.Parts.{lawful_process, lawful_at, ok_numbers, lawful_whole}
 
 -- ---- process after process
-
-module _ (n p : ℕ) (f : ℕ → Bool) where
-  pub all_of_end : n ≤ p → all_of p (n - p) f ≡ true
-  unfolding all_of
-  all_of_end h = let z : n - p ≡ 0 = omega arith in rw z
-
-  module _ (h : p < n) where
-    pub all_of_wrong : f p ≡ false → all_of p (n - p) f ≡ false
-    unfolding all_of
-    all_of_wrong e = let z : n - p ≡ suc (n - (p + 1)) = omega arith in rw (z, e)
-
-    pub all_of_right : f p ≡ true → all_of p (n - p) f ≡ all_of (p + 1) (n - (p + 1)) f
-    unfolding all_of
-    all_of_right e = let z : n - p ≡ suc (n - (p + 1)) = omega arith in let y : p + 1 ≡ suc p = omega arith in rw (z, e, y)
 
 processes_from : (n h k c : ℕ) (f : ℕ → Process) → ok_processes n h k (listed k c f) ≡ all_of k c (λ p. ok_process n h p (f p))
 unfolding all_of listed ok_processes

@@ -15,29 +15,20 @@ use memory::{ENTRIES, EVENTS, HORIZON, MAILS, MODE, NEXT, OUTPUTS, RECORDED, TAL
 use ranges::{queues, row};
 
 // The rows of one process: as many as there must be, and counts within them.
+#[tactic(auto, unfolding(memory::specs::Memory::shaped_at))]
 fn shaped(own: &[Row], inputs: &[Row], outputs: &[Row]) -> bool
     ensures { result ≡ shaped_at (alone own.now inputs.now outputs.now) 0 }
 {
-    if inputs.len() != QUEUE {
-        return false;
-    }
-    if outputs.len() != QUEUE {
-        return false;
-    }
-    if own.len() != OWN {
-        return false;
-    }
-    let numbers = own[0];
-    if QUEUE < memory::size(numbers[ENTRIES]) {
-        return false;
-    }
-    if QUEUE < memory::size(numbers[OUTPUTS]) {
-        return false;
-    }
-    memory::size(numbers[EVENTS]) <= HISTORY
+    inputs.len() == QUEUE
+        && outputs.len() == QUEUE
+        && own.len() == OWN
+        && own[0][ENTRIES] as usize <= QUEUE
+        && own[0][OUTPUTS] as usize <= QUEUE
+        && own[0][EVENTS] as usize <= HISTORY
 }
 
 // The base, the queues and the history of one process.
+#[tactic(auto, unfolding(memory::specs::Memory::shaped_at, definition::specs::BadState::ok_process))]
 fn ok_process(
     own: &[Row],
     inputs: &[Row],
@@ -50,26 +41,21 @@ fn ok_process(
     ensures { result ≡ ok_process processes horizon process (process_of own.now inputs.now outputs.now) }
 {
     let numbers = own[0];
-    if !row::ok_stand(Stand {
+    let base = Stand {
         mode: numbers[MODE],
         tally: numbers[TALLY],
-    }) {
-        return false;
-    }
-    let entries = memory::size(numbers[ENTRIES]);
-    if !queues::ok_entries(&inputs[..entries], processes, horizon, process) {
-        return false;
-    }
-    let sends = memory::size(numbers[OUTPUTS]);
-    let end = memory::size(numbers[EVENTS]) + 1;
-    let events = &own[1..end];
-    if !queues::ok_outputs(&outputs[..sends], processes, process, events) {
-        return false;
-    }
-    queues::ok_events(events, horizon)
+    };
+    let entries = &inputs[..numbers[ENTRIES] as usize];
+    let sends = &outputs[..numbers[OUTPUTS] as usize];
+    let events = &own[1..=numbers[EVENTS] as usize];
+    row::ok_stand(base)
+        && queues::ok_entries(entries, processes, horizon, process)
+        && queues::ok_outputs(sends, processes, process, events)
+        && queues::ok_events(events, horizon)
 }
 
 // One process.
+#[tactic(auto, unfolding(crate::specs::Parts::lawful_process))]
 fn lawful_process(
     own: &[Row],
     inputs: &[Row],
@@ -80,10 +66,7 @@ fn lawful_process(
 ) -> bool
     ensures { result ≡ lawful_process processes horizon process own.now inputs.now outputs.now }
 {
-    if !shaped(own, inputs, outputs) {
-        return false;
-    }
-    ok_process(own, inputs, outputs, processes, horizon, process)
+    shaped(own, inputs, outputs) && ok_process(own, inputs, outputs, processes, horizon, process)
 }
 
 // Every process.
@@ -97,55 +80,43 @@ fn lawful_processes(
     requires { (processes ≤ length own.now) × (processes ≤ length inputs.now) × (processes ≤ length outputs.now) }
     ensures { result ≡ all_of 0 processes (lawful_at processes horizon own.now inputs.now outputs.now) }
 {
-    let mut p: u32 = 0;
-    while p < processes {
-        let i = memory::size(p);
-        if !lawful_process(&own[i], &inputs[i], &outputs[i], processes, horizon, p) {
-            return false;
-        }
-        p = p + 1;
-    }
-    true
+    (0..processes).all(|p| {
+        let i = p as usize;
+        lawful_process(&own[i], &inputs[i], &outputs[i], processes, horizon, p)
+    })
 }
 
 // Horizon, next request number and last recorded time.
+#[tactic(auto, unfolding(crate::specs::Parts::ok_numbers))]
 fn ok_numbers(horizon: Time, next: u32, recorded: Time) -> bool
     ensures { result ≡ ok_numbers horizon next recorded }
 {
-    if NEVER < horizon {
-        return false;
-    }
-    if LAST_NEXT < next {
-        return false;
-    }
-    if horizon == 0 {
-        return recorded == 0;
-    }
-    recorded < horizon
+    horizon <= NEVER
+        && next <= LAST_NEXT
+        && if horizon == 0 {
+            recorded == 0
+        } else {
+            recorded < horizon
+        }
 }
 
 // What is in transit, and the numbers of the whole.
+#[tactic(auto, unfolding(crate::specs::Parts::lawful_whole))]
 fn lawful_whole(whole: &[Row], transit: &[Row], processes: u32) -> bool
     ensures { result ≡ lawful_whole processes whole.now transit.now }
 {
-    if transit.len() != TRANSIT {
-        return false;
-    }
-    if whole.len() != OWN {
+    if transit.len() != TRANSIT || whole.len() != OWN {
         return false;
     }
     let numbers = whole[0];
-    let mails = memory::size(numbers[MAILS]);
-    if TRANSIT < mails {
-        return false;
-    }
-    if !queues::ok_mails(&transit[..mails], processes, numbers[HORIZON]) {
-        return false;
-    }
-    ok_numbers(numbers[HORIZON], numbers[NEXT], numbers[RECORDED])
+    let mails = numbers[MAILS] as usize;
+    mails <= TRANSIT
+        && queues::ok_mails(&transit[..mails], processes, numbers[HORIZON])
+        && ok_numbers(numbers[HORIZON], numbers[NEXT], numbers[RECORDED])
 }
 
 // Whether a call may work on this memory.
+#[tactic(auto, using(crate::proofs::Laws::lawful_is, crate::proofs::Laws::model_few))]
 pub fn lawful(
     model: &[Rules],
     inputs: &[Queue],
@@ -158,19 +129,11 @@ pub fn lawful(
     if !rulecheck::lawful(model) {
         return false;
     }
-    if inputs.len() != PROCESSES {
-        return false;
-    }
-    if outputs.len() != PROCESSES {
-        return false;
-    }
-    if own.len() != OWNERS {
+    if inputs.len() != PROCESSES || outputs.len() != PROCESSES || own.len() != OWNERS {
         return false;
     }
     let processes = table::processes(model);
-    if !lawful_whole(&own[WHOLE], transit, processes) {
-        return false;
-    }
-    let numbers = own[WHOLE][0];
-    lawful_processes(own, inputs, outputs, processes, numbers[HORIZON])
+    let whole = &own[WHOLE];
+    lawful_whole(whole, transit, processes)
+        && lawful_processes(own, inputs, outputs, processes, whole[0][HORIZON])
 }

@@ -14,8 +14,8 @@ fn tally_after(effect: Effect, tally: u32, value: u32) -> u32
     match effect {
         Effect::Keep => tally,
         Effect::Set(number) => number,
-        Effect::Add(number) => std::num::wrapping_add_u32(tally, number),
-        Effect::AddRead => std::num::wrapping_add_u32(tally, value),
+        Effect::Add(number) => tally.wrapping_add(number),
+        Effect::AddRead => tally.wrapping_add(value),
     }
 }
 
@@ -23,10 +23,9 @@ fn tally_after(effect: Effect, tally: u32, value: u32) -> u32
 pub fn after(rule: Decoded, stand: Stand, value: u32) -> Stand
     ensures { result ≡ record { mode = rule.next; tally = effect_on rule.effect stand.tally value } }
 {
-    let effect = rule.effect;
     Stand {
         mode: rule.next,
-        tally: tally_after(effect, stand.tally, value),
+        tally: tally_after(rule.effect, stand.tally, value),
     }
 }
 
@@ -34,8 +33,7 @@ pub fn after(rule: Decoded, stand: Stand, value: u32) -> Stand
 pub fn sent_value(send: Send, tally: u32, value: u32) -> u32
     ensures { result ≡ value_of send.value tally value }
 {
-    let chosen = send.value;
-    match chosen {
+    match send.value {
         Value::Fixed(number) => number,
         Value::Tally => tally,
         Value::Read => value,

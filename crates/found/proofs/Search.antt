@@ -1,27 +1,27 @@
--- What is left of a search after each row: what the whole found.
-use mathlib.Core.Path.{◌≡◌}
-use mathlib.Core.Bool.{Bool, true, false, ◌&&◌}
-use mathlib.Core.List.{List, []}
-use Prim.Native.Nat.{ℕ, ◌+◌, ◌≤◌, ◌<◌}
-use lib.Dec.{eqb}
-use lib.ListN.{length, get_or, drop, drop_of_length-le}
-use Rattle.laws.specs.Walks.{next_row}
+-- The library's `find` and `map`, as a search of the rows: the first row for a mode and a kind, decoded.
+use Rattle.std.proofs.Common.{◌≡◌, ℕ, Bool, cond, ◌&&◌, true, false, List, [], ◌∷◌, Option, Some, None, get_or, eqb, refl, ap}
+use Rattle.std.specs.Prelude.{find}
+use Rattle.std.specs.Option.{MatchOption, IsSomeAnd, option_map}
+use Rattle.rule.specs.declared.Decoded.{Decoded}
 use Rattle.rule.specs.Rows.{decoded}
-use Rattle.found.specs.declared.Found.TheVariants.{Rule as Match, Nothing}
 use Rattle.found.specs.Search.{found_among}
 
-module _ (l : List (List ℕ)) (i : ℕ) (h : i < length l) (mode kind : ℕ) where
-  abbrev answered : Bool
-  answered = eqb (decoded (get_or l i [])).mode mode && eqb (decoded (get_or l i [])).kind kind
+-- `map` by a closure that answers g of what v sees in its argument
+pub map_said : {A B C : Type 0} (v : A → B) (g : B → C) (P : A → C → Type 0) (o : Option A) (r : Option C) → MatchOption o (r ≡ None) (λ x. IsSomeAnd r (P x)) → ((x : A) (y : C) → P x y → y ≡ g (v x)) → r ≡ option_map g (option_map v o)
+map_said v g P None r h k = h
+map_said v g P (Some x) None h k = absurd h
+map_said v g P (Some x) (Some y) h k = ap Some (k x y h)
 
-  pub found_here : answered ≡ true → found_among (drop i l) mode kind ≡ Match (decoded (get_or l i []))
+module _ (mode kind : ℕ) where
+  -- the row is for the mode and the kind
+  abbrev pub answers : List ℕ → Bool
+  answers row = eqb (get_or row 0 0) mode && eqb (get_or row 1 0) kind
+
+  one : (here : Bool) (row : List ℕ) (o : Option (List ℕ)) (f : Option Decoded) → option_map decoded o ≡ f → option_map decoded (cond here (Some row) o) ≡ cond here (Some (decoded row)) f
+  one true row o f e = refl
+  one false row o f e = e
+
+  pub find_said : (rows : List (List ℕ)) → option_map decoded (find answers rows) ≡ found_among rows mode kind
   unfolding found_among
-  found_here e = rw (next_row decoded l i h, e)
-
-  pub found_later : answered ≡ false → found_among (drop i l) mode kind ≡ found_among (drop (i + 1) l) mode kind
-  unfolding found_among
-  found_later e = rw (next_row decoded l i h, e)
-
-pub found_none : (l : List (List ℕ)) (i mode kind : ℕ) → length l ≤ i → found_among (drop i l) mode kind ≡ Nothing
-unfolding found_among
-found_none l i mode kind h = rw (drop_of_length-le l h)
+  find_said [] = refl
+  find_said (row ∷ rows) = one (answers row) row _ _ (find_said rows)

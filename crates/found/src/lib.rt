@@ -2,39 +2,18 @@
 // decoded.
 #![tactic(auto)]
 
-ghost use Rattle.std.specs.Prelude.{◌≡◌, ◌&&◌, eqb};
+ghost use Rattle.std.specs.Prelude.{◌≡◌};
 ghost use Rattle.found.specs.Search.{found_among};
 
 use definition::lent::RuleRow;
 use rule::{Decoded, KIND, MODE};
 
-// The rule for a mode and a kind, where there is one.
-#[derive(Clone, Copy)]
-pub enum Found {
-    Rule(Decoded),
-    Nothing,
-}
-
-// A rule for the first two answers the last two.
-fn answers(mode: u32, kind: u32, wanted: u32, read: u32) -> bool
-    ensures { result ≡ eqb mode wanted && eqb kind read }
-{
-    if mode == wanted {
-        return kind == read;
-    }
-    false
-}
-
-// The rule for a mode and a kind among the rules of a process.
-pub fn find_among(rules: &[RuleRow], mode: u32, kind: u32) -> Found
+// The rule for a mode and a kind among the rules of a process, where there is one.
+pub fn find_among(rules: &[RuleRow], mode: u32, kind: u32) -> Option<Decoded>
     ensures { result ≡ found_among rules.now mode kind }
 {
-    let mut i: usize = 0;
-    while i < rules.len() {
-        if answers(rules[i][MODE], rules[i][KIND], mode, kind) {
-            return Found::Rule(rule::decode(rules[i]));
-        }
-        i = i + 1;
-    }
-    Found::Nothing
+    rules
+        .iter()
+        .find(|row| row[MODE] == mode && row[KIND] == kind)
+        .map(|row| rule::decode(*row))
 }

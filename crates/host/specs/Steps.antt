@@ -1,6 +1,7 @@
 -- The host's step over a model in rows: its refusal, where it leaves a process, its answer. The laws below say it case by case, and that a mode or
 -- a kind over 7 changes nothing.
-use Rattle.std.specs.Prelude.{◌≡◌, refl, Bool, true, false, cond, List, ℕ, zero, suc, ◌≤◌, ◌<◌, eqb}
+use Rattle.std.specs.Prelude.{◌≡◌, refl, Bool, true, false, cond, List, ℕ, zero, suc, ◌≤◌, ◌<◌, eqb, Result, Ok, Err}
+use Rattle.std.proofs.Common.{ap}
 use Rattle.std.proofs.Math.Option.{none}
 use native.Mathlib.Omega.{arith}
 use Rattle.std.proofs.Math.ListN.{length}
@@ -10,9 +11,43 @@ use Rattle.definition.specs.Model.{setup, find}
 use Rattle.definition.specs.Host.{step_refused, stepped}
 use Rattle.rule.specs.Rows.{processes_of, model_of, lawful_model, stand_after}
 use Rattle.rule.specs.Laws.{Lawful, lawful_model_lem, stands, no_mode, no_kind}
-use Rattle.host.specs.declared.Stepped.{Stepped}
-use Rattle.host.specs.declared.Stepped.TheVariants.{Done, Refused}
-use Rattle.host.specs.declared.Outcome.{Outcome}
+use Rattle.definition.specs.declared.refusal.Refusal.{Refusal}
+use Rattle.definition.specs.Answer.{refusal_number, one_refusal}
+
+-- what a step answers, a refusal by its number; and where it leaves a process
+pub data Stepped : Type 0 where
+  Done : Stepped
+  Refused : ℕ → Stepped
+
+pub record Outcome : Type 0 where
+  pub stand : Stand
+  pub answer : Stepped
+
+abbrev pub stepped_of : {A : Type 0} → Result A Refusal → Stepped
+stepped_of (Ok x) = Done
+stepped_of (Err r) = Refused (refusal_number r)
+
+-- of a process that stands at s: a refusal leaves it there
+abbrev pub left_at : Stand → Result Stand Refusal → Stand
+left_at s (Ok t) = t
+left_at s (Err r) = s
+
+abbrev pub told : Stand → Result Stand Refusal → Outcome
+told s r = record { stand = left_at s r; answer = stepped_of r }
+
+-- what is told of an answer settles it
+pub one_step : (r s : Result (Unit {0}) Refusal) → stepped_of r ≡ stepped_of s → r ≡ s
+one_step (Ok x) (Ok y) e = refl
+one_step (Ok x) (Err s) e = let z : ◌≡◌ {A = ℕ} 0 1 = cc in absurd (omega arith)
+one_step (Err r) (Ok y) e = let z : ◌≡◌ {A = ℕ} 0 1 = cc in absurd (omega arith)
+one_step (Err r) (Err s) e = let same : refusal_number r ≡ refusal_number s = cc in ap Err (one_refusal r s same)
+
+pub one_outcome : (s : Stand) (r q : Result Stand Refusal) → told s r ≡ told s q → r ≡ q
+one_outcome s (Ok t) (Ok u) e = ap (λ (o : Outcome). Ok o.stand) e
+one_outcome s (Ok t) (Err q) e = let f = ap (λ (o : Outcome). o.answer) e in let z : ◌≡◌ {A = ℕ} 0 1 = cc in absurd (omega arith)
+one_outcome s (Err r) (Ok u) e = let f = ap (λ (o : Outcome). o.answer) e in let z : ◌≡◌ {A = ℕ} 0 1 = cc in absurd (omega arith)
+one_outcome s (Err r) (Err q) e =
+    let f = ap (λ (o : Outcome). o.answer) e in let same : refusal_number r ≡ refusal_number q = cc in ap Err (one_refusal r q same)
 
 -- document 01's number for each answer: 0 refuses nothing
 abbrev pub answered : ℕ → Stepped

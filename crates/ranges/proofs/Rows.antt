@@ -1,40 +1,24 @@
--- Single facts behind the tests: a net count of 0, the reading order by its number, an event of a time among rows.
-use mathlib.Core.Path.{◌≡◌}
-use mathlib.Core.Bool.{Bool, true, false}
-use mathlib.Core.List.{List, [], map}
-use Prim.Native.Nat.{ℕ, ◌+◌, ◌≤◌, ◌<◌, Ordering}
-use native.Mathlib.Omega.{arith}
+-- Single facts behind the tests: the reading order by `is_lt`, an event of a time among rows.
+use mathlib.Core.Path.{◌≡◌, refl, ap}
+use mathlib.Core.Bool.{Bool, ◌||◌}
+use mathlib.Core.List.{List, [], ◌∷◌, map}
+use Prim.Native.Nat.{ℕ, Ordering}
 use lib.Dec.{eqb}
-use lib.ListN.{length, get_or, drop, drop_of_length-le}
-use borrow.Author.Tests.{eq-eqb, ne_eqb}
+use lib.ListN.{get_or}
+use Rattle.std.specs.Ordering.{is_lt}
+use Rattle.std.specs.declared.cmp.Ordering.TheVariants.{Less, Equal, Greater}
+use Rattle.std.specs.List.{list_any}
 use Rattle.definition.specs.Lists.{is_less}
 use Rattle.definition.specs.State.{by_order}
-use Rattle.definition.specs.BadState.{ok_net, has_run}
-use Rattle.laws.specs.Walks.{next_row}
-use Rattle.queue.specs.Rows.{net_of}
+use Rattle.definition.specs.BadState.{has_run}
 use Rattle.history.specs.Rows.{saved_of}
 
-pub net_none : (c : ℕ) → c ≡ 256 → ok_net (net_of c) ≡ false
-unfolding net_of
-net_none c e = rw e
+pub less_by_order : (o : Ordering) → is_lt (by_order o Less Equal Greater) ≡ is_less o
+less_by_order Ordering.lt = refl
+less_by_order Ordering.eq = refl
+less_by_order Ordering.gt = refl
 
-pub less_by_order : (o : Ordering) (r : ℕ) → r ≡ by_order o 0 1 2 → eqb r 0 ≡ is_less o
-less_by_order Ordering.lt r e = eq-eqb r 0 e
-less_by_order Ordering.eq r e = ne_eqb r 0 (λ z. omega arith)
-less_by_order Ordering.gt r e = ne_eqb r 0 (λ z. omega arith)
-
-module _ (t : ℕ) (rows : List (List ℕ)) (i : ℕ) where
-  abbrev rest : ℕ → Bool
-  rest k = has_run t (map saved_of (drop k rows))
-
-  pub run_end : length rows ≤ i → rest i ≡ false
-  unfolding has_run
-  run_end h = rw (drop_of_length-le rows h)
-
-  pub run_here : i < length rows → get_or (get_or rows i []) 0 0 ≡ t → rest i ≡ true
-  unfolding has_run
-  run_here h e = rw (next_row saved_of rows i h, eq-eqb _ t e)
-
-  pub run_later : i < length rows → (get_or (get_or rows i []) 0 0 ≡ t → ⊥) → rest i ≡ rest (i + 1)
-  unfolding has_run
-  run_later h e = rw (next_row saved_of rows i h, ne_eqb _ t e)
+pub run_said : (t : ℕ) (rows : List (List ℕ)) → list_any (λ e. eqb (get_or e 0 0) t) rows ≡ has_run t (map saved_of rows)
+unfolding has_run
+run_said t [] = refl
+run_said t (e ∷ rows) = ap (λ (b : Bool). eqb (get_or e 0 0) t || b) (run_said t rows)

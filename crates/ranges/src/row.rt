@@ -11,16 +11,8 @@ use definition::numbers::{
     OUTSIDE,
 };
 use definition::{Stand, Time};
-use queue::rows::{KIND, LAST, ORDINAL, RECEIVED, RECEIVER, SENDER, SENT, VALUE};
-
-// An input row's last word is its net count + 256.
-const COUNT: usize = LAST;
-
-const LOWEST: u32 = 127;
-
-const NOTHING: u32 = 256;
-
-const HIGHEST: u32 = 385;
+use queue::input::{COUNT, HIGHEST, LOWEST, ZERO};
+use queue::rows::{KIND, ORDINAL, RECEIVED, RECEIVER, SENDER, SENT, VALUE};
 
 // The words of an event's row.
 pub const TIME: usize = 0;
@@ -32,115 +24,71 @@ const MODE: usize = 2;
 const TALLY: usize = 3;
 
 // A request from outside, or a message of a process.
+#[tactic(auto, unfolding(definition::specs::BadState::ok_source))]
 fn ok_source(row: Row, processes: u32) -> bool
     ensures { result ≡ ok_source processes (message_of row) }
 {
     if row[SENDER] == OUTSIDE {
-        if row[SENT] != 0 {
-            return false;
-        }
-        return row[ORDINAL] <= LAST_REQUEST;
+        row[SENT] == 0 && row[ORDINAL] <= LAST_REQUEST
+    } else {
+        row[SENDER] < processes && row[ORDINAL] <= LAST_ORDINAL
     }
-    if processes <= row[SENDER] {
-        return false;
-    }
-    row[ORDINAL] <= LAST_ORDINAL
 }
 
 pub fn ok_message(row: Row, processes: u32) -> bool
     ensures { result ≡ ok_message processes (message_of row) }
 {
-    if processes <= row[RECEIVER] {
-        return false;
-    }
-    if LAST_USABLE < row[RECEIVED] {
-        return false;
-    }
-    if row[RECEIVED] <= row[SENT] {
-        return false;
-    }
-    if HIGHEST_KIND < row[KIND] {
-        return false;
-    }
-    if LARGEST < row[VALUE] {
-        return false;
-    }
-    ok_source(row, processes)
+    row[RECEIVER] < processes
+        && row[RECEIVED] <= LAST_USABLE
+        && row[SENT] < row[RECEIVED]
+        && row[KIND] <= HIGHEST_KIND
+        && row[VALUE] <= LARGEST
+        && ok_source(row, processes)
 }
 
 // A net count + 256.
+#[tactic(auto, unfolding(queue::specs::Rows::net_of))]
 fn ok_net(count: u32) -> bool
     ensures { result ≡ ok_net (net_of count) }
 {
-    if count == NOTHING {
-        return false;
-    }
-    if count < LOWEST {
-        return false;
-    }
-    if HIGHEST < count {
-        return false;
-    }
-    true
+    count != ZERO && LOWEST <= count && count <= HIGHEST
 }
 
 // An input entry of a process.
 pub fn ok_entry(row: Row, processes: u32, horizon: Time, process: u32) -> bool
     ensures { result ≡ ok_entry processes horizon process (entry_of row) }
 {
-    if !ok_message(row, processes) {
-        return false;
-    }
-    if row[RECEIVER] != process {
-        return false;
-    }
-    if row[RECEIVED] < horizon {
-        return false;
-    }
-    ok_net(row[COUNT])
+    ok_message(row, processes)
+        && row[RECEIVER] == process
+        && horizon <= row[RECEIVED]
+        && ok_net(row[COUNT])
 }
 
 // A message in transit.
 pub fn ok_mail(row: Row, processes: u32, horizon: Time) -> bool
     ensures { result ≡ ok_mail processes horizon (mail_of row) }
 {
-    if !ok_message(row, processes) {
-        return false;
-    }
-    horizon <= row[RECEIVED]
+    ok_message(row, processes) && horizon <= row[RECEIVED]
 }
 
 // Where a process stands.
 pub fn ok_stand(stand: Stand) -> bool
     ensures { result ≡ ok_stand stand }
 {
-    if HIGHEST_MODE < stand.mode {
-        return false;
-    }
-    stand.tally <= LARGEST
+    stand.mode <= HIGHEST_MODE && stand.tally <= LARGEST
 }
 
 // An event of the history.
 pub fn ok_event(row: Row, horizon: Time) -> bool
     ensures { result ≡ ok_saved horizon (saved_of row) }
 {
-    if row[TIME] < 1 {
-        return false;
-    }
-    if LAST_USABLE < row[TIME] {
-        return false;
-    }
-    if row[TIME] < horizon {
-        return false;
-    }
-    if row[READ] < 1 {
-        return false;
-    }
-    if MOST_READ < row[READ] {
-        return false;
-    }
-    ok_stand(Stand {
-        mode: row[MODE],
-        tally: row[TALLY],
-    })
+    1 <= row[TIME]
+        && row[TIME] <= LAST_USABLE
+        && horizon <= row[TIME]
+        && 1 <= row[READ]
+        && row[READ] <= MOST_READ
+        && ok_stand(Stand {
+            mode: row[MODE],
+            tally: row[TALLY],
+        })
 }

@@ -8,6 +8,7 @@ ghost use Rattle.rule.specs.Rows.{effect_of, value_of, send_at, decoded, effect_
 use definition::lent::RuleRow;
 use definition::{Effect, Send, Value};
 
+// `first` and `second` are no array: to `specs/` an array is a list of any length, and the law `decoded_encoded` is one of every value of this type.
 #[derive(Clone, Copy)]
 pub struct Decoded {
     pub mode: u32,
@@ -62,12 +63,11 @@ fn send_at(row: RuleRow, at: usize) -> Send
     requires { at ≤ 11 }
     ensures { result ≡ send_at row at }
 {
-    let value = value_of(row[at + 3], row[at + 4]);
     Send {
         receiver: row[at],
         delay: row[at + 1],
         kind: row[at + 2],
-        value,
+        value: value_of(row[at + 3], row[at + 4]),
     }
 }
 
@@ -75,59 +75,37 @@ fn send_at(row: RuleRow, at: usize) -> Send
 pub fn decode(row: RuleRow) -> Decoded
     ensures { result ≡ decoded row }
 {
-    let effect = effect_of(row[EFFECT], row[NUMBER]);
-    let first = send_at(row, FIRST);
-    let second = send_at(row, SECOND);
     Decoded {
         mode: row[MODE],
         kind: row[KIND],
         next: row[NEXT],
-        effect,
+        effect: effect_of(row[EFFECT], row[NUMBER]),
         count: row[SENDS],
-        first,
-        second,
+        first: send_at(row, FIRST),
+        second: send_at(row, SECOND),
     }
 }
 
-fn effect_tag(effect: Effect) -> u32
-    ensures { result ≡ effect_tag effect }
+// The tag of an effect and its number.
+fn effect_words(effect: Effect) -> (u32, u32)
+    ensures { result ≡ (effect_tag effect, effect_number effect) }
 {
     match effect {
-        Effect::Keep => 0,
-        Effect::Set(_) => 1,
-        Effect::Add(_) => 2,
-        Effect::AddRead => 3,
+        Effect::Keep => (0, 0),
+        Effect::Set(number) => (1, number),
+        Effect::Add(number) => (2, number),
+        Effect::AddRead => (3, 0),
     }
 }
 
-fn effect_number(effect: Effect) -> u32
-    ensures { result ≡ effect_number effect }
-{
-    match effect {
-        Effect::Keep => 0,
-        Effect::Set(n) => n,
-        Effect::Add(n) => n,
-        Effect::AddRead => 0,
-    }
-}
-
-fn value_tag(value: Value) -> u32
-    ensures { result ≡ value_tag value }
+// The tag of a value and its number.
+fn value_words(value: Value) -> (u32, u32)
+    ensures { result ≡ (value_tag value, value_number value) }
 {
     match value {
-        Value::Fixed(_) => 0,
-        Value::Tally => 1,
-        Value::Read => 2,
-    }
-}
-
-fn value_number(value: Value) -> u32
-    ensures { result ≡ value_number value }
-{
-    match value {
-        Value::Fixed(n) => n,
-        Value::Tally => 0,
-        Value::Read => 0,
+        Value::Fixed(number) => (0, number),
+        Value::Tally => (1, 0),
+        Value::Read => (2, 0),
     }
 }
 
@@ -135,27 +113,26 @@ fn value_number(value: Value) -> u32
 pub fn encode(rule: Decoded) -> RuleRow
     ensures { result ≡ encoded rule }
 {
-    let effect = rule.effect;
-    let first = rule.first;
-    let second = rule.second;
-    let one = first.value;
-    let other = second.value;
+    let Decoded { first, second, .. } = rule;
+    let (tag, number) = effect_words(rule.effect);
+    let (first_tag, first_number) = value_words(first.value);
+    let (second_tag, second_number) = value_words(second.value);
     [
         rule.mode,
         rule.kind,
         rule.next,
-        effect_tag(effect),
-        effect_number(effect),
+        tag,
+        number,
         rule.count,
         first.receiver,
         first.delay,
         first.kind,
-        value_tag(one),
-        value_number(one),
+        first_tag,
+        first_number,
         second.receiver,
         second.delay,
         second.kind,
-        value_tag(other),
-        value_number(other),
+        second_tag,
+        second_number,
     ]
 }

@@ -11,7 +11,7 @@ use Rattle.std.proofs.lemmas.List.{length-map}
 use borrow.Author.Tests.{le-leb, lt-leb, eq-eqb, ne_eqb}
 use Rattle.definition.specs.Lists.{all, in_order, is_less, compare}
 use Rattle.definition.specs.Model.{rule_key, ok_rule, ok_setup, ok_model}
-use Rattle.laws.specs.Walks.{before_next, walked}
+use Rattle.laws.specs.Walks.{walked}
 use Rattle.rule.specs.Rows.{rule_at, heading, rule_rows, setup_of, processes_of, model_of, shaped_rule, shaped_setup, shaped_model, lawful_model}
 use Rattle.rule.specs.Laws.{and_false, model_length}
 
@@ -24,9 +24,6 @@ itself r = r
 
 abbrev pub row_key : List ℕ → List ℕ
 row_key r = rule_key (rule_at r)
-
-abbrev pub ascends : List (List ℕ) → Bool
-ascends l = before_next row_key (map itself l)
 
 abbrev pub ok_rows : ℕ → List (List ℕ) → Bool
 ok_rows n l = walked (ok_row n) row_key (map itself l)

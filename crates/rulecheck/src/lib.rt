@@ -2,31 +2,23 @@
 // 01 asks of a model. A call that is handed rows of any other kind refuses them by 16. Each test that fails leaves at once.
 #![tactic(auto)]
 
-ghost use Rattle.std.specs.Prelude.{◌≡◌, [], ◌∷◌, ◌≤◌, ◌<◌, length, take, drop};
-ghost use Rattle.definition.specs.Lists.{all, compare_keys, is_less};
+ghost use Rattle.std.specs.Prelude.{◌≡◌, ◌≤◌, length, take};
+ghost use Rattle.definition.specs.Lists.{all, compare, is_less};
 ghost use Rattle.definition.specs.Model.{ok_effect, ok_value, ok_send, ok_rule};
 ghost use Rattle.rule.specs.Rows.{rule_of, shaped_tag, shaped_rule, lawful_model};
-ghost use Rattle.rulecheck.specs.Check.{ok_row, ascends, ok_rows, ok_process};
+ghost use Rattle.rulecheck.specs.Check.{ok_row, row_key, ok_rows, ok_process};
 
 use definition::lent::{RuleRow, Rules};
-use definition::numbers::LARGEST;
+use definition::numbers::{HIGHEST_KIND, HIGHEST_MODE, LARGEST, PROCESSES};
 use definition::{Effect, Send, Value};
 use rule::{Decoded, EFFECT, FIRST, KIND, MODE, SECOND, SENDS};
-
-fn size(x: u32) -> usize
-    ensures { result ≡ x }
-{
-    x as usize
-}
 
 fn ok_effect(effect: Effect) -> bool
     ensures { result ≡ ok_effect effect }
 {
     match effect {
-        Effect::Keep => true,
-        Effect::Set(number) => number <= LARGEST,
-        Effect::Add(number) => number <= LARGEST,
-        Effect::AddRead => true,
+        Effect::Set(number) | Effect::Add(number) => number <= LARGEST,
+        Effect::Keep | Effect::AddRead => true,
     }
 }
 
@@ -35,168 +27,89 @@ fn ok_value(value: Value) -> bool
 {
     match value {
         Value::Fixed(number) => number <= LARGEST,
-        Value::Tally => true,
-        Value::Read => true,
+        Value::Tally | Value::Read => true,
     }
 }
 
 fn ok_send(send: Send, processes: u32) -> bool
     ensures { result ≡ ok_send processes send }
 {
-    if processes <= send.receiver {
-        return false;
-    }
-    if send.delay < 1 {
-        return false;
-    }
-    if 65535 < send.delay {
-        return false;
-    }
-    if 7 < send.kind {
-        return false;
-    }
-    let value = send.value;
-    ok_value(value)
+    send.receiver < processes
+        && 1 <= send.delay
+        && send.delay <= 65535
+        && send.kind <= HIGHEST_KIND
+        && ok_value(send.value)
 }
 
 // None, one or two sends.
 fn ok_sends(rule: Decoded, processes: u32) -> bool
     ensures { result ≡ all (ok_send processes) (rule_of rule).sends }
 {
-    if rule.count == 0 {
-        return true;
-    }
-    let first = rule.first;
-    if !ok_send(first, processes) {
-        return false;
-    }
-    if rule.count == 1 {
-        return true;
-    }
-    let second = rule.second;
-    ok_send(second, processes)
+    [rule.first, rule.second]
+        .iter()
+        .take(rule.count as usize)
+        .all(|send| ok_send(*send, processes))
 }
 
+#[tactic(auto, unfolding(definition::specs::Model::ok_rule))]
 fn ok_rule(rule: Decoded, processes: u32) -> bool
     ensures { result ≡ ok_rule processes (rule_of rule) }
 {
-    if 7 < rule.mode {
-        return false;
-    }
-    if 7 < rule.kind {
-        return false;
-    }
-    if 7 < rule.next {
-        return false;
-    }
-    let effect = rule.effect;
-    if !ok_effect(effect) {
-        return false;
-    }
-    ok_sends(rule, processes)
+    rule.mode <= HIGHEST_MODE
+        && rule.kind <= HIGHEST_KIND
+        && rule.next <= HIGHEST_MODE
+        && ok_effect(rule.effect)
+        && ok_sends(rule, processes)
 }
 
 // The tag of a value is one of three, or the rule has no send of this number and the word says nothing.
 fn is_tag(tag: u32, sends: u32, number: u32) -> bool
     ensures { result ≡ shaped_tag tag sends number }
 {
-    if tag <= 2 {
-        return true;
-    }
-    sends < number
+    tag <= 2 || sends < number
 }
 
 // Counts and tags: a rule's effect, its send count and the values of its sends are among those that there are.
 fn shaped(row: RuleRow) -> bool
     ensures { result ≡ shaped_rule row }
 {
-    let sends = row[SENDS];
-    if 3 < row[EFFECT] {
-        return false;
-    }
-    if 2 < sends {
-        return false;
-    }
-    if !is_tag(row[FIRST + 3], sends, 1) {
-        return false;
-    }
-    is_tag(row[SECOND + 3], sends, 2)
+    row[EFFECT] <= 3
+        && row[SENDS] <= 2
+        && is_tag(row[FIRST + 3], row[SENDS], 1)
+        && is_tag(row[SECOND + 3], row[SENDS], 2)
 }
 
 fn ok_row(row: RuleRow, processes: u32) -> bool
     ensures { result ≡ ok_row processes row }
 {
-    if shaped(row) {
-        return ok_rule(rule::decode(row), processes);
-    }
-    false
+    shaped(row) && ok_rule(rule::decode(row), processes)
 }
 
-// "Rules of a process strictly ascend by mode, then kind": a rule of the first two against one of the last two.
-fn before(mode: u32, kind: u32, above: u32, beside: u32) -> bool
-    ensures { result ≡ is_less (compare_keys (mode ∷ kind ∷ []) (above ∷ beside ∷ [])) }
+// "Rules of a process strictly ascend by mode, then kind."
+fn before(a: &RuleRow, b: &RuleRow) -> bool
+    ensures { result ≡ is_less (compare row_key a.now b.now) }
 {
-    if mode < above {
-        return true;
-    }
-    if mode == above {
-        return kind < beside;
-    }
-    false
-}
-
-// Rule i stands before the next, where there is one.
-fn ascends_at(rules: &[RuleRow], i: usize) -> bool
-    requires { i < length rules.now }
-    ensures { result ≡ ascends (drop i rules.now) }
-{
-    let next = i + 1;
-    if rules.len() <= next {
-        return true;
-    }
-    before(
-        rules[i][MODE],
-        rules[i][KIND],
-        rules[next][MODE],
-        rules[next][KIND],
-    )
+    (a[MODE], a[KIND]) < (b[MODE], b[KIND])
 }
 
 // Each rule is right, and stands before the next.
 fn ok_rules(rules: &[RuleRow], processes: u32) -> bool
     ensures { result ≡ ok_rows processes rules.now }
 {
-    let mut i: usize = 0;
-    while i < rules.len() {
-        if !ok_row(rules[i], processes) {
-            return false;
-        }
-        if !ascends_at(rules, i) {
-            return false;
-        }
-        i = i + 1;
-    }
-    true
+    rules.iter().all(|row| ok_row(*row, processes)) && rules.is_sorted_by(before)
 }
 
 // One process: as many rows as there must be, its first stand, its rules.
+#[tactic(auto, using(crate::proofs::Steps::process_cases))]
 fn ok_process(rows: &[RuleRow], processes: u32) -> bool
     ensures { result ≡ ok_process processes rows.now }
 {
-    if rows.len() != 65 {
-        return false;
-    }
-    if 64 < table::count(rows) {
-        return false;
-    }
-    let stand = table::first(rows);
-    if 7 < stand.mode {
-        return false;
-    }
-    if LARGEST < stand.tally {
-        return false;
-    }
-    ok_rules(table::rules(rows), processes)
+    let first = table::first(rows);
+    rows.len() == 65
+        && table::count(rows) <= 64
+        && first.mode <= HIGHEST_MODE
+        && first.tally <= LARGEST
+        && ok_rules(table::rules(rows), processes)
 }
 
 // Each of so many processes.
@@ -204,30 +117,19 @@ fn ok_processes(model: &[Rules], processes: u32) -> bool
     requires { processes ≤ length model.now }
     ensures { result ≡ all (ok_process processes) (take processes model.now) }
 {
-    let end = size(processes);
-    let mut p: usize = 0;
-    while p < end {
-        if !ok_process(&model[p], processes) {
-            return false;
-        }
-        p = p + 1;
-    }
-    true
+    model[..processes as usize]
+        .iter()
+        .all(|rows| ok_process(rows, processes))
 }
 
 // Whether the rows hold an accepted model.
+#[tactic(auto, using(crate::proofs::Steps::lawful_cases))]
 pub fn lawful(model: &[Rules]) -> bool
     ensures { result ≡ lawful_model model.now }
 {
-    if model.len() != 8 {
-        return false;
-    }
     let count = table::processes(model);
-    if count < 1 {
-        return false;
-    }
-    if 8 < count {
-        return false;
-    }
-    ok_processes(model, count)
+    model.len() == PROCESSES
+        && 1 <= count
+        && count as usize <= PROCESSES
+        && ok_processes(model, count)
 }

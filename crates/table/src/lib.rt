@@ -17,31 +17,21 @@ const FIRST_TALLY: usize = 2;
 
 const PROCESSES: usize = 3;
 
-fn size(x: u32) -> usize
-    ensures { result ≡ x }
-{
-    x as usize
-}
-
 // A word of a process's first row.
 fn heading_word(rows: &[RuleRow], word: usize) -> u32
     requires { word < 16 }
     ensures { result ≡ heading rows.now word }
 {
-    if rows.len() == 0 {
-        return 0;
-    }
-    rows[0][word]
+    rows.first().map_or(0, |row| row[word])
 }
 
 // The process count.
 pub fn processes(model: &[Rules]) -> u32
     ensures { result ≡ processes_of model.now }
 {
-    if model.len() == 0 {
-        return 0;
-    }
-    heading_word(&model[0], PROCESSES)
+    model
+        .first()
+        .map_or(0, |rows| heading_word(rows, PROCESSES))
 }
 
 // How many rules a process says it has.
@@ -65,13 +55,8 @@ pub fn first(rows: &[RuleRow]) -> Stand
 pub fn rules(rows: &[RuleRow]) -> &[RuleRow]
     ensures { result.now ≡ rule_rows rows.now }
 {
-    if rows.len() == 0 {
-        return rows;
+    match rows.split_first() {
+        Some((_, rest)) => &rest[..rest.len().min(count(rows) as usize)],
+        None => rows,
     }
-    let last = size(heading_word(rows, RULES));
-    if rows.len() <= last {
-        return &rows[1..];
-    }
-    let end = last + 1;
-    &rows[1..end]
 }

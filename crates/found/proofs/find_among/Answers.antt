@@ -1,31 +1,15 @@
-use mathlib.Core.Path.{refl, sym, ap, ◌∙◌}
-use borrow.Author.Rules.{rules}
-use Rattle.found.specs.declared.Found.TheVariants.{Rule as Match}
-use Rattle.found.proofs.Search.{found_here, found_later, found_none}
+use Rattle.std.proofs.Common.{◌∙◌, Option, List, ℕ, ap, rules}
+use Rattle.std.proofs.lemmas.Iterator.{YieldsList-from_slice}
+use Rattle.std.proofs.lemmas.Iterator.Search.{find_from_yields_List}
+use Rattle.std.specs.Option.{option_map}
+use Rattle.rule.specs.Rows.{decoded}
+use Rattle.found.proofs.Search.{answers, find_said, map_said}
 use Rattle.found.proofs.find_among.Goals as goal
-
-pub loop-i-init : goal.loop-i-init
-loop-i-init c = (search rules, refl)
-
-pub returns-then-answers : goal.returns-then-answers
-returns-then-answers c =
-    let a = c.args in
-    let loop = c.loop-i in
-    let loop-test = c.loop-i-test in
-    let answers = c.answers in
-    let if1 = c.if-answers in
-    ap Match c.decode.ensures
-    ∙ sym (loop.invariant.1 ∙ found_here a.rules.now loop.i loop-test.true a.mode a.kind (sym answers.ensures ∙ if1.true))
-
-pub loop-i-preserved : goal.loop-i-preserved
-loop-i-preserved c =
-    let a = c.args in
-    let loop = c.loop-i in
-    let loop-test = c.loop-i-test in
-    (search rules, loop.invariant.1 ∙ found_later a.rules.now loop.i loop-test.true a.mode a.kind (sym c.answers.ensures ∙ c.if-answers.false))
 
 pub returns : goal.returns
 returns c =
     let a = c.args in
-    let loop = c.loop-i in
-    sym (loop.invariant.1 ∙ found_none a.rules.now loop.i a.mode a.kind c.loop-i-test.false)
+    let first = find_from_yields_List (answers a.mode a.kind) _ _ c.find.result c.find.ensures.ran (YieldsList-from_slice a.rules.now cc) (λ x b q k. search rules) in
+    map_said (λ row. row.now) decoded _ c.find.result _ c.map.ensures.cases (λ x y k. search rules)
+    ∙ ap (λ (o : Option (List ℕ)). option_map decoded o) first
+    ∙ find_said a.mode a.kind a.rules.now

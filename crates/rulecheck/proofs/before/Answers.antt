@@ -1,17 +1,10 @@
--- The definition compares the modes, and the kinds where the modes are equal.
-use native.Mathlib.Omega.{arith}
-use Rattle.laws.specs.Walks.{less_first, less_second, more_first}
+-- `<` of two pairs is the order of keys of two numbers.
+use Rattle.std.proofs.Common.{get_or, ◌∙◌}
+use Rattle.laws.specs.Checks.{pair_before}
 use Rattle.rulecheck.proofs.before.Goals as goal
-
-pub returns-then-mode-above : goal.returns-then-mode-above
-returns-then-mode-above c = less_first c.args.mode c.args.kind c.args.above c.args.beside c.if-mode-above.true
-
-pub returns-then-mode-above-2 : goal.returns-then-mode-above-2
-returns-then-mode-above-2 c =
-    let a = c.args in
-    less_second a.mode a.kind a.above a.beside c.if-mode-above.false (omega (arith, c.if-mode-above-2.true))
 
 pub returns : goal.returns
 returns c =
-    let a = c.args in
-    more_first a.mode a.kind a.above a.beside (omega (arith, c.if-mode-above.false, c.if-mode-above-2.false))
+    let a = c.args.a.now in
+    let b = c.args.b.now in
+    c.lt.ensures ∙ pair_before (get_or a 0 0) (get_or a 1 0) (get_or b 0 0) (get_or b 1 0)

@@ -1,32 +1,20 @@
-use mathlib.Core.Path.{refl, sym, ◌∙◌}
-use borrow.Author.Rules.{rules}
-use Rattle.laws.specs.Walks.{walk_end, walk_wrong, walk_unordered, walk_right}
+use Rattle.std.proofs.Common.{rules}
+use Rattle.std.proofs.lemmas.Iterator.{YieldsList-from_slice}
+use Rattle.std.proofs.lemmas.Iterator.Search.{all_from_yields_List}
+use Rattle.std.proofs.lemmas.List.Sorted.{answers_always}
+use Rattle.laws.specs.Checks.{said_before, check_fails, check_ends}
 use Rattle.rulecheck.specs.Check.{itself, row_key, ok_row}
 use Rattle.rulecheck.proofs.ok_rules.Goals as goal
 
-pub loop-i-init : goal.loop-i-init
-loop-i-init c = (search rules, refl)
-
-pub returns-then-not-ok_row : goal.returns-then-not-ok_row
-returns-then-not-ok_row c =
+pub returns-else-all : goal.returns-else-all
+returns-else-all c =
     let a = c.args in
-    let loop = c.loop-i in
-    sym (loop.invariant.1 ∙ walk_wrong itself a.rules.now loop.i c.loop-i-test.true (ok_row a.processes) row_key (sym c.ok_row.ensures ∙ c.if-not-ok_row.true))
+    let each = all_from_yields_List (ok_row a.processes) _ _ c.all.result c.all.ensures.ran (YieldsList-from_slice a.rules.now cc) (λ x b q k. search rules) in
+    check_fails itself row_key (ok_row a.processes) a.rules.now _ each c.if-all.false
 
-pub returns-then-not-ascends_at : goal.returns-then-not-ascends_at
-returns-then-not-ascends_at c =
+pub returns-then-all : goal.returns-then-all
+returns-then-all c =
     let a = c.args in
-    let loop = c.loop-i in
-    sym (loop.invariant.1 ∙ walk_unordered itself a.rules.now loop.i c.loop-i-test.true (ok_row a.processes) row_key (sym c.ok_row.ensures ∙ c.if-not-ok_row.false) (sym c.ascends_at.ensures ∙ c.if-not-ascends_at.true))
-
-pub loop-i-preserved : goal.loop-i-preserved
-loop-i-preserved c =
-    let a = c.args in
-    let loop = c.loop-i in
-    (search rules, loop.invariant.1 ∙ walk_right itself a.rules.now loop.i c.loop-i-test.true (ok_row a.processes) row_key (sym c.ok_row.ensures ∙ c.if-not-ok_row.false) (sym c.ascends_at.ensures ∙ c.if-not-ascends_at.false))
-
-pub returns : goal.returns
-returns c =
-    let a = c.args in
-    let loop = c.loop-i in
-    sym (loop.invariant.1 ∙ walk_end itself a.rules.now loop.i (ok_row a.processes) row_key c.loop-i-test.false)
+    let each = all_from_yields_List (ok_row a.processes) _ _ c.all.result c.all.ensures.ran (YieldsList-from_slice a.rules.now cc) (λ x b q k. search rules) in
+    check_ends itself row_key (ok_row a.processes) a.rules.now _ _ each c.if-all.true
+    (c.is_sorted_by.ensures.cases (said_before itself row_key) (answers_always _ _ _ (λ f x r g k. search rules)))

@@ -1,25 +1,13 @@
--- Of the two sends in the row the count takes none, the first, or both.
-use mathlib.Core.Path.{sym, ◌∙◌}
-use borrow.Author.Tests.{not-true, not-false}
-use Rattle.rulecheck.proofs.Steps.{sends_none, sends_wrong, sends_one, sends_two}
+use Rattle.std.proofs.Common.{take, [], ◌∷◌, ◌∙◌, rules}
+use Rattle.std.proofs.lemmas.Iterator.{YieldsList-from_slice, YieldsList-from_take}
+use Rattle.std.proofs.lemmas.Iterator.Search.{all_from_yields_List}
+use Rattle.definition.specs.Model.{ok_send}
+use Rattle.laws.specs.Checks.{all_is}
 use Rattle.rulecheck.proofs.ok_sends.Goals as goal
-
-pub returns-then-rule-eq0 : goal.returns-then-rule-eq0
-returns-then-rule-eq0 c =
-    let a = c.args in
-    sends_none a.processes a.rule.first a.rule.second a.rule.count c.if-rule-eq0.true
-
-pub returns-then-not-ok_send : goal.returns-then-not-ok_send
-returns-then-not-ok_send c =
-    let a = c.args in
-    sends_wrong a.processes a.rule.first a.rule.second a.rule.count c.if-rule-eq0.false (sym c.ok_send.ensures ∙ not-true _ c.if-not-ok_send.true-raw)
-
-pub returns-then-rule-eq1 : goal.returns-then-rule-eq1
-returns-then-rule-eq1 c =
-    let a = c.args in
-    sends_one a.processes a.rule.first a.rule.second a.rule.count c.if-rule-eq1.true (sym c.ok_send.ensures ∙ not-false _ c.if-not-ok_send.false-raw)
 
 pub returns : goal.returns
 returns c =
     let a = c.args in
-    sends_two a.processes a.rule.first a.rule.second a.rule.count _ c.if-rule-eq0.false c.if-rule-eq1.false (sym c.ok_send.ensures ∙ not-false _ c.if-not-ok_send.false-raw) c.ok_send-2.ensures
+    let both = a.rule.first ∷ a.rule.second ∷ [] in
+    all_from_yields_List (ok_send a.processes) _ _ _ c.all.ensures.ran (YieldsList-from_take a.rule.count (YieldsList-from_slice both cc) cc) (λ x b q k. search rules)
+    ∙ all_is (ok_send a.processes) (take a.rule.count both)

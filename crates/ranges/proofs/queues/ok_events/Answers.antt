@@ -1,35 +1,23 @@
-use mathlib.Core.Path.{refl, sym, ◌∙◌}
-use Rattle.definition.specs.BadState.{ok_saved}
-use Rattle.laws.specs.Walks.{walk_end, walk_wrong, walk_unordered, walk_right}
-use Rattle.history.specs.Rows.{saved_of}
+use Rattle.std.proofs.Common.{rules}
+use Rattle.std.proofs.lemmas.List.Sorted.{answers_always}
+use Rattle.std.proofs.lemmas.Iterator.{YieldsList-from_slice}
+use Rattle.std.proofs.lemmas.Iterator.Search.{all_from_yields_List}
 use Rattle.ranges.specs.Keys.{saved_key}
+use Rattle.definition.specs.BadState.{ok_saved}
+use Rattle.laws.specs.Walks.{less_only}
+use Rattle.laws.specs.Checks.{said_before, check_fails, check_ends}
+use Rattle.history.specs.Rows.{saved_of}
 use Rattle.ranges.proofs.queues.ok_events.Goals as goal
 
-pub loop-i-init : goal.loop-i-init
-loop-i-init c = refl
-
-pub returns-then-not-ok_event : goal.returns-then-not-ok_event
-returns-then-not-ok_event c =
+pub returns-else-all : goal.returns-else-all
+returns-else-all c =
     let a = c.args in
-    let o = c.loop-i in
-    sym (o.invariant ∙ walk_wrong saved_of a.events.now o.i c.loop-i-test.true (ok_saved a.horizon) saved_key (sym c.ok_event.ensures ∙ c.if-not-ok_event.true))
+    let each = all_from_yields_List (λ r. ok_saved a.horizon (saved_of r)) _ _ c.all.result c.all.ensures.ran (YieldsList-from_slice a.events.now cc) (λ x b q k. search rules) in
+    check_fails saved_of saved_key (ok_saved a.horizon) a.events.now _ each c.if-all.false
 
-pub returns-then-not-event_before_next : goal.returns-then-not-event_before_next
-returns-then-not-event_before_next c =
+pub returns-then-all : goal.returns-then-all
+returns-then-all c =
     let a = c.args in
-    let o = c.loop-i in
-    let passed = sym c.ok_event.ensures ∙ c.if-not-ok_event.false in
-    sym (o.invariant ∙ walk_unordered saved_of a.events.now o.i c.loop-i-test.true (ok_saved a.horizon) saved_key passed (sym c.event_before_next.ensures ∙ c.if-not-event_before_next.true))
-
-pub loop-i-preserved : goal.loop-i-preserved
-loop-i-preserved c =
-    let a = c.args in
-    let o = c.loop-i in
-    let passed = sym c.ok_event.ensures ∙ c.if-not-ok_event.false in
-    o.invariant ∙ walk_right saved_of a.events.now o.i c.loop-i-test.true (ok_saved a.horizon) saved_key passed (sym c.event_before_next.ensures ∙ c.if-not-event_before_next.false)
-
-pub returns : goal.returns
-returns c =
-    let a = c.args in
-    let o = c.loop-i in
-    sym (o.invariant ∙ walk_end saved_of a.events.now o.i (ok_saved a.horizon) saved_key c.loop-i-test.false)
+    let each = all_from_yields_List (λ r. ok_saved a.horizon (saved_of r)) _ _ c.all.result c.all.ensures.ran (YieldsList-from_slice a.events.now cc) (λ x b q k. search rules) in
+    check_ends saved_of saved_key (ok_saved a.horizon) a.events.now _ _ each c.if-all.true
+    (c.is_sorted_by.ensures.cases (said_before saved_of saved_key) (answers_always _ _ _ (λ f x r g k. search (rules, less_only))))

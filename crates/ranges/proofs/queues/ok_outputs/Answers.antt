@@ -1,37 +1,24 @@
-use mathlib.Core.Path.{refl, sym, ◌∙◌}
-use mathlib.Core.List.{map}
+use Rattle.std.proofs.Common.{rules}
+use Rattle.std.proofs.lemmas.List.Sorted.{answers_always}
+use Rattle.std.proofs.lemmas.Iterator.{YieldsList-from_slice}
+use Rattle.std.proofs.lemmas.Iterator.Search.{all_from_yields_List}
 use Rattle.definition.specs.Message.{output_key}
 use Rattle.definition.specs.BadState.{ok_output}
-use Rattle.laws.specs.Walks.{walk_end, walk_wrong, walk_unordered, walk_right}
+use Rattle.laws.specs.Checks.{said_before, check_fails, check_ends}
 use Rattle.queue.specs.Rows.{message_of}
 use Rattle.history.specs.Rows.{saved_of}
+use Rattle.std.specs.Prelude.{map}
 use Rattle.ranges.proofs.queues.ok_outputs.Goals as goal
 
-pub loop-i-init : goal.loop-i-init
-loop-i-init c = refl
-
-pub returns-then-not-ok_output : goal.returns-then-not-ok_output
-returns-then-not-ok_output c =
+pub returns-else-all : goal.returns-else-all
+returns-else-all c =
     let a = c.args in
-    let o = c.loop-i in
-    sym (o.invariant ∙ walk_wrong message_of a.outputs.now o.i c.loop-i-test.true (ok_output a.processes a.process (map saved_of a.events.now)) output_key (sym c.ok_output.ensures ∙ c.if-not-ok_output.true))
+    let each = all_from_yields_List (λ r. ok_output a.processes a.process (map saved_of a.events.now) (message_of r)) _ _ c.all.result c.all.ensures.ran (YieldsList-from_slice a.outputs.now cc) (λ x b q k. search rules) in
+    check_fails message_of output_key (ok_output a.processes a.process (map saved_of a.events.now)) a.outputs.now _ each c.if-all.false
 
-pub returns-then-not-output_before_next : goal.returns-then-not-output_before_next
-returns-then-not-output_before_next c =
+pub returns-then-all : goal.returns-then-all
+returns-then-all c =
     let a = c.args in
-    let o = c.loop-i in
-    let passed = sym c.ok_output.ensures ∙ c.if-not-ok_output.false in
-    sym (o.invariant ∙ walk_unordered message_of a.outputs.now o.i c.loop-i-test.true (ok_output a.processes a.process (map saved_of a.events.now)) output_key passed (sym c.output_before_next.ensures ∙ c.if-not-output_before_next.true))
-
-pub loop-i-preserved : goal.loop-i-preserved
-loop-i-preserved c =
-    let a = c.args in
-    let o = c.loop-i in
-    let passed = sym c.ok_output.ensures ∙ c.if-not-ok_output.false in
-    o.invariant ∙ walk_right message_of a.outputs.now o.i c.loop-i-test.true (ok_output a.processes a.process (map saved_of a.events.now)) output_key passed (sym c.output_before_next.ensures ∙ c.if-not-output_before_next.false)
-
-pub returns : goal.returns
-returns c =
-    let a = c.args in
-    let o = c.loop-i in
-    sym (o.invariant ∙ walk_end message_of a.outputs.now o.i (ok_output a.processes a.process (map saved_of a.events.now)) output_key c.loop-i-test.false)
+    let each = all_from_yields_List (λ r. ok_output a.processes a.process (map saved_of a.events.now) (message_of r)) _ _ c.all.result c.all.ensures.ran (YieldsList-from_slice a.outputs.now cc) (λ x b q k. search rules) in
+    check_ends message_of output_key (ok_output a.processes a.process (map saved_of a.events.now)) a.outputs.now _ _ each c.if-all.true
+    (c.is_sorted_by.ensures.cases (said_before message_of output_key) (answers_always _ _ _ (λ f x r g k. search rules)))
