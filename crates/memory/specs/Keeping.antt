@@ -3,8 +3,7 @@ use Rattle.std.specs.Prelude.{◌≡◌, Bool, ◌||◌, List, ℕ}
 use Rattle.std.proofs.Math.Path.{refl, sym}
 use Rattle.std.proofs.Common.{ap, ◌∙◌, arith}
 use Rattle.std.proofs.Math.Bool.{true, false, not}
-use Rattle.definition.specs.declared.Answer.{Answer}
-use Rattle.definition.specs.declared.Answer.TheVariants.{Refused}
+use Rattle.definition.specs.Answer.{Answer, Refused}
 use Rattle.definition.specs.declared.Call.{Call}
 use Rattle.definition.specs.declared.Call.TheVariants.{Inject, Deliver, Execute, Advance}
 use Rattle.definition.specs.State.{State}

@@ -1,8 +1,7 @@
 -- What every call promises, in one record, on every memory; and what a start promises, in another.
 use Rattle.std.specs.Prelude.{◌≡◌, Bool, true, false, not, ◌&&◌, List, [], ℕ, eqb, length, get_or}
 use Rattle.std.proofs.Common.{sym, ◌∙◌}
-use Rattle.definition.specs.declared.Answer.{Answer}
-use Rattle.definition.specs.declared.Answer.TheVariants.{Refused, Started, Injected, Delivered, Executed, Advanced}
+use Rattle.definition.specs.Answer.{Answer, Refused, Started, Injected, Delivered, Executed, Advanced}
 use Rattle.definition.specs.declared.Call.{Call}
 use Rattle.definition.specs.Record.{onto}
 use Rattle.definition.specs.Calls.{Result, check, start}
