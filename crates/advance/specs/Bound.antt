@@ -1,10 +1,12 @@
 -- How far an advance goes, told by the rows: the least unread time of the processes, and the horizon.
-use Rattle.std.specs.Prelude.{◌≡◌, refl, ℕ, zero, suc, ◌-◌, ◌≤◌, ◌<◌, min, max}
-use Rattle.std.proofs.Common.{ap, arith}
+use Rattle.std.specs.Prelude.{◌≡◌, refl, true, false, cond, ◌&&◌, List, [], ◌∷◌, map, ℕ, zero, suc, ◌+◌, ◌-◌, ◌≤◌, ◌<◌, ltb, min, max}
+use Rattle.std.proofs.Common.{ap, ◌∙◌, add-one, arith}
+use Rattle.std.specs.List.{fold, reduce, range_with_len}
+use Rattle.std.specs.Option.{unwrap_or}
 use Rattle.definition.specs.declared.Stand.{Stand}
 use Rattle.definition.specs.Calls.{least_mail, least_unread, bound, reached}
 use Rattle.definition.specs.Message.{never}
-use Rattle.definition.specs.State.{Process, last, unread_after, unread}
+use Rattle.definition.specs.State.{Process, Entry, positive, last, unread_after, unread}
 use Rattle.queue.specs.Rows.{entries, mails}
 use Rattle.rule.specs.Rows.{processes_of}
 use Rattle.memory.specs.Memory.{Memory, Rows, Table, number, listed, process_at, state_of}
@@ -35,6 +37,33 @@ least_more f i n a b =
     let x : n - (i - 1) ≡ suc (n - i) = omega arith in
     let y : suc (i - 1) ≡ i = omega arith in
     rw (x, y)
+
+-- ---- the least of a list of them
+
+unread_most : (t : ℕ) (l : List Entry) → unread_after t l ≤ never
+unfolding unread_after
+unread_most t [] = omega arith
+unread_most t (e ∷ l) = elim (ltb t e.message.received && positive e.net) as (λ b. cond b (min e.message.received (unread_after t l)) (unread_after t l) ≤ never) [
+  | true ↦ omega (arith, unread_most t l)
+  | false ↦ unread_most t l
+]
+
+unread_at_most : (own inputs : Table) (p : ℕ) → unread_at own inputs p ≤ never
+unfolding unread_of
+unread_at_most own inputs p = unread_most _ _
+
+fold_least : (f : ℕ → ℕ) (k n x : ℕ) → x ≤ never → fold min x (map f (range_with_len k n)) ≡ min x (least_of f k n)
+unfolding least_of
+fold_least f k zero x h = omega arith
+fold_least f k (suc n) x h =
+    let i = fold_least f (suc k) n (min x (f k)) (omega arith) in
+    let e : k + 1 ≡ suc k = add-one k in
+    rw e (i ∙ (let z : min (min x (f k)) (least_of f (suc k) n) ≡ min x (min (f k) (least_of f (suc k) n)) = omega arith in z))
+
+pub least_found : (own inputs : Table) (n : ℕ) → unwrap_or (reduce min (map (unread_at own inputs) (range_with_len 0 n))) never ≡ least_of (unread_at own inputs) 0 n
+unfolding least_of
+least_found own inputs zero = refl
+least_found own inputs (suc n) = fold_least (unread_at own inputs) 1 n (unread_at own inputs 0) (unread_at_most own inputs 0)
 
 least_listed : (k n : ℕ) (g : ℕ → Process) → least_of (λ p. unread (g p)) k n ≡ least_unread (listed k n g)
 unfolding least_of least_unread listed

@@ -3,6 +3,7 @@ pub mod Merge
 pub mod Rows
 pub mod Walk
 pub mod Entries
+pub mod Left
 pub mod Bound
 pub mod Trim
 pub mod Done

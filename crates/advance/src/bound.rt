@@ -9,19 +9,8 @@ use definition::numbers::NEVER;
 use definition::{Stand, Time};
 use memory::{ENTRIES, EVENTS, HORIZON, MAILS, MODE, TALLY};
 
-fn lesser(a: Time, b: Time) -> Time
-    ensures { result ≡ min a b }
-{
-    if a < b { a } else { b }
-}
-
-fn greater(a: Time, b: Time) -> Time
-    ensures { result ≡ max a b }
-{
-    if a < b { b } else { a }
-}
-
 // The unread time of one process.
+#[tactic(auto, unfolding(crate::specs::Bound::unread_of))]
 fn unread(own: &[Row], inputs: &[Row]) -> Time
     requires own_rows { OwnRows own.now }
     requires input_rows { InputRows own.now inputs.now }
@@ -32,8 +21,8 @@ fn unread(own: &[Row], inputs: &[Row]) -> Time
         mode: numbers[MODE],
         tally: numbers[TALLY],
     };
-    let last = history::last(own, memory::size(numbers[EVENTS]), base);
-    queue::input::unread(inputs, memory::size(numbers[ENTRIES]), last.time)
+    let last = history::last(own, numbers[EVENTS] as usize, base);
+    queue::input::unread(&inputs[..numbers[ENTRIES] as usize], last.time)
 }
 
 // The least unread time of the processes.
@@ -42,16 +31,14 @@ fn least_unread(own: &[Own], inputs: &[Queue], processes: usize) -> Time
     requires inputs { Inputs own.now inputs.now processes }
     ensures { result ≡ least_of (unread_at own.now inputs.now) 0 processes }
 {
-    let mut least: Time = NEVER;
-    let mut i = processes;
-    while 0 < i {
-        least = lesser(unread(&own[i - 1], &inputs[i - 1]), least);
-        i = i - 1;
-    }
-    least
+    (0..processes)
+        .map(|p| unread(&own[p], &inputs[p]))
+        .min()
+        .unwrap_or(NEVER)
 }
 
 // "The horizon becomes the smaller of bound and ceiling if that is higher."
+#[tactic(auto, unfolding(crate::specs::Bound::reached_of))]
 pub fn reached(
     inputs: &[Queue],
     transit: &[Row],
@@ -65,7 +52,7 @@ pub fn reached(
     ensures { result ≡ reached_of own.now inputs.now transit.now processes ceiling }
 {
     let numbers = own[WHOLE][0];
-    let mail = queue::transit::least(transit, memory::size(numbers[MAILS]));
-    let bound = lesser(mail, least_unread(own, inputs, processes));
-    greater(numbers[HORIZON], lesser(bound, ceiling))
+    let mail = queue::transit::least(&transit[..numbers[MAILS] as usize]);
+    let bound = mail.min(least_unread(own, inputs, processes));
+    numbers[HORIZON].max(bound.min(ceiling))
 }

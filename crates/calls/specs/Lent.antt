@@ -1,6 +1,6 @@
 -- The buffer that a call is lent: an advance's is as long as the call says, and no other call has bytes to write.
 use Rattle.std.specs.Prelude.{◌≡◌, refl, Bool, true, false, not, List, ℕ, zero, suc, length}
-use Rattle.definition.specs.declared.Answer.{Answer}
+use Rattle.definition.specs.Answer.{Answer}
 use Rattle.definition.specs.declared.Call.{Call}
 use Rattle.definition.specs.declared.Call.TheVariants.{Inject, Deliver, Execute, Advance}
 use Rattle.definition.specs.ModelBytes.{Parsed, Got, Fault, and_then, field}

@@ -3,26 +3,27 @@
 #![tactic(auto)]
 
 ghost use Rattle.std.specs.Prelude.{◌≡◌, length};
-ghost use Rattle.memory.specs.Memory.{held};
+ghost use Rattle.definition.specs.Answer.{answer_of};
+ghost use Rattle.memory.specs.Lent.{said, SameLists};
 ghost use Rattle.memory.specs.Promise.{Ready, Committed};
 ghost use Rattle.calls.specs.Lent.{room_of};
 
-use definition::lent::{Own, Queue, Row, Rules};
+use definition::refusal::Refusal;
 use definition::{Answer, Call};
+use memory::Lent;
 
-pub fn make(
-    model: &[Rules],
-    inputs: &mut [Queue],
-    outputs: &mut [Queue],
-    transit: &mut [Row],
-    own: &mut [Own],
-    call: Call,
-    buffer: &mut [u8],
-) -> Answer
-    requires ready { Ready (held model.now inputs.old outputs.old transit.old own.old) }
+#[tactic(auto, using(crate::specs::Lent::none_written, crate::specs::Lent::advance_commits))]
+pub fn make(m: &mut Lent, call: Call, buffer: &mut [u8]) -> Result<Answer, Refusal>
+    requires ready { Ready (said m.old) }
     requires buffer_value { room_of call (length buffer.old) ≡ length buffer.old }
-    ensures { Committed (held model.now inputs.old outputs.old transit.old own.old) call result (held model.now inputs.new outputs.new transit.new own.new) buffer.old buffer.new }
+    ensures commits { Committed (said m.old) call (answer_of result) (said m.new) buffer.old buffer.new }
+    ensures same_lists { SameLists m.new m.old }
 {
+    let model = m.model;
+    let inputs = &mut *m.inputs;
+    let outputs = &mut *m.outputs;
+    let transit = &mut *m.transit;
+    let own = &mut *m.own;
     match call {
         Call::Inject {
             number,
@@ -35,7 +36,7 @@ pub fn make(
         ),
         Call::Deliver(place) => deliver::deliver(model, inputs, outputs, transit, own, place),
         Call::Execute(process) => execute::execute(model, inputs, outputs, transit, own, process),
-        Call::Advance { ceiling, room: _ } => {
+        Call::Advance { ceiling, .. } => {
             advance::advance(model, inputs, outputs, transit, own, ceiling, buffer)
         }
     }

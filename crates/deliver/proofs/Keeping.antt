@@ -7,11 +7,12 @@ use mathlib.Core.Logic.{inl, inr}
 use Prim.Native.Nat.{ℕ, ◌+◌, ◌-◌, ◌≤◌, ◌<◌}
 use native.Mathlib.Omega.{arith}
 use lib.Dec.{leb}
+use Rattle.std.proofs.Common.{length-take-le}
 use lib.ListN.{length, get_or, set, length-set}
 use lib.Seq.{drop-cons, get_or-set_same, set-get_or}
 use borrow.Author.Tests.{le-leb}
-use Rattle.definition.specs.declared.Answer.{Answer}
-use Rattle.definition.specs.declared.Answer.TheVariants.{Refused, Delivered}
+use Rattle.definition.specs.declared.refusal.Refusal.{Refusal as Reason}
+use Rattle.definition.specs.Answer.{refusal_number, Refused, Delivered}
 use Rattle.definition.specs.declared.Saved.{Saved}
 use Rattle.definition.specs.declared.Call.TheVariants.{Deliver}
 use Rattle.definition.specs.BadState.{bad, ok_message, ok_mail, ok_entry, ok_nets, call}
@@ -28,7 +29,7 @@ use Rattle.lawful.specs.Rollback.{lawful_rollback}
 use Rattle.queue.specs.Rows.{mail_of, mails}
 use Rattle.rule.specs.Rows.{processes_of}
 use Rattle.memory.specs.Memory.{Memory, Rows, Table, state_of, lawful, number, whole, own_at, input_at, output_at, process_of, process_at, with_mails}
-use Rattle.memory.specs.Promise.{is_refusal, Kept}
+use Rattle.memory.specs.Promise.{Kept}
 use Rattle.memory.specs.Laws.{Shape, lawful_shape, lawful_sane, shape_shaped, shape_lawful, model_count, mail_count, process_count, process_at_lem, same_state, with_rows, rows_state, rows_shape, with_whole, whole_state, whole_shape}
 use Rattle.memory.specs.Keeping.{check_yes, check_no, kept_refused, kept_done}
 use Rattle.deliver.specs.declared.Rollback.{Rollback}
@@ -139,18 +140,18 @@ module _ (m : Memory) (l : lawful m ≡ true) where
         (rw receiver_is lawful_here.output_room) (rw receiver_is lawful_here.history_room) (nets_are ∙ e)
         ∙ rw (receiver_is, ← few)
 
-    pub kept_no : (k : ℕ) → Refusal n x pr k → Kept m (Deliver i) (Refused k) m
-    kept_no k why = kept_refused m (Deliver i) k (shape_shaped m shape) (answered why)
+    pub kept_no : (r : Reason) → Refusal n x pr (refusal_number r) → Kept m (Deliver i) (Refused (refusal_number r)) m
+    kept_no r why = kept_refused m (Deliver i) (refusal_number r) (shape_shaped m shape) (answered (refusal_number r) why)
       where
-        answered : Refusal n x pr k → (call s (Deliver i)).answer ≡ Refused k
-        answered (inl (e, f)) = ap (λ (r : Result). r.answer) (passed f) ∙ ap Refused (sym e)
-        answered (inr (e, f, g)) = ap (λ (r : Result). r.answer) (call_is f ∙ check_yes _ 7 s _ (ap not g)) ∙ ap Refused (sym e)
+        answered : (k : ℕ) → Refusal n x pr k → (call s (Deliver i)).answer ≡ Refused k
+        answered k (inl (e, f)) = ap (λ (r : Result). r.answer) (passed f) ∙ ap Refused (sym e)
+        answered k (inr (e, f, g)) = ap (λ (r : Result). r.answer) (call_is f ∙ check_yes _ 7 s _ (ap not g)) ∙ ap Refused (sym e)
 
     -- ---- it may be made
 
     module _ (r : Rollback) (G : Going (input_at m q) (output_at m q) (own_at m q) n x r) where
       cancelled_is : r.cancelled ≡ length (sent_from t pr.output)
-      cancelled_is = G.rolled.cancelled_sends ∙ G.rolled.sends_kept.many_after
+      cancelled_is = omega (arith, G.rolled.cancelled_sends, G.rolled.sends_kept.many_after, length-take-le (number (own_at m q) 1) (output_at m q) (omega (arith, sound.ordered.few_sends, sound.ordered.output_rows)))
 
       pub few : (r.undone ≤ 32) × (r.cancelled ≤ 64)
       few = (
@@ -211,8 +212,8 @@ module _ (m : Memory) (l : lawful m ≡ true) where
             (ap (λ (w : List ℕ). get_or w 2 0) first)
             (ap (λ (w : List ℕ). get_or w 3 0) first))
 
-        pub kept_go : (a : Answer) → a ≡ Delivered r.undone r.cancelled → Kept m (Deliver i) a after
-        kept_go a A =
-            let result : call s (Deliver i) ≡ done a (state_of after) = call_done ∙ ap₂ done (sym A) state_is in
-            kept_done m (Deliver i) after a [] [] (shape_shaped m shape) (ap is_refusal A) result
+        pub kept_go : Kept m (Deliver i) (Delivered r.undone r.cancelled) after
+        kept_go =
+            let result : call s (Deliver i) ≡ done (Delivered r.undone r.cancelled) (state_of after) = call_done ∙ ap (done (Delivered r.undone r.cancelled)) state_is in
+            kept_done m (Deliver i) after _ [] [] (shape_shaped m shape) refl result
             (shape_lawful after after_shape (ap (λ (o : Result). bad o.after) (sym result) ∙ kept s (lawful_sane m l) (Deliver i) refl))

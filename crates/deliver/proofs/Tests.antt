@@ -7,7 +7,7 @@ use native.Mathlib.Omega.{arith}
 use lib.Dec.{leb, ltb}
 use lib.ListN.{length, get_or, length-append, length-map, length-take, length-drop}
 use borrow.Author.Tests.{le-leb, lt-leb}
-use Rattle.definition.specs.declared.Answer.TheVariants.{Delivered}
+use Rattle.definition.specs.Answer.{Delivered}
 use Rattle.definition.specs.declared.Saved.{Saved}
 use Rattle.definition.specs.declared.Call.TheVariants.{Deliver}
 use Rattle.definition.specs.Message.{Message}
@@ -26,21 +26,9 @@ or_right : (a : Bool) {b : Bool} → b ≡ true → a || b ≡ true
 or_right true e = refl
 or_right false e = e
 
-and_false : (a : Bool) {b : Bool} → b ≡ false → a && b ≡ false
-and_false true e = e
-and_false false e = refl
-
 and_right : (b : Bool) → b && true ≡ b
 and_right true = refl
 and_right false = refl
-
--- no room: in transit, by the c that a rollback cancels, or in the input queue, by its r entries
-module _ (n : ℕ) (x : Mail) (pr : Process) where
-  pub full : (c : ℕ) → c ≡ length (sent_from x.message.received pr.output) → 128 < n - 1 + c → room n x pr ≡ false
-  full c e h = rw (lt-leb (n - 1 + length (sent_from x.message.received pr.output)) 128 (omega arith))
-
-  pub crowded : (r : ℕ) → r ≡ length (arrival x pr) → 64 < r → room n x pr ≡ false
-  crowded r e h = and_false (leb (n - 1 + length (sent_from x.message.received pr.output)) 128) (lt-leb (length (arrival x pr)) 64 (omega arith))
 
 without_length : (i : ℕ) (l : List Mail) → i < length l → length (without i l) ≡ length l - 1
 without_length i l h = simp (length-append, length-take, length-drop) (omega arith)

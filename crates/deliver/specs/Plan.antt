@@ -1,6 +1,8 @@
 -- A delivery over the rows of the one process that receives: its rollback, the plan that is judged before anything is written, and what is left
 -- when it is carried out.
-use Rattle.std.specs.Prelude.{◌≡◌, Bool, true, false, ◌&&◌, List, ◌++◌, map, ◌⊎◌, ℕ, ◌+◌, ◌-◌, ◌≤◌, leb, length}
+use Rattle.std.specs.Prelude.{◌≡◌, Bool, true, false, ◌&&◌, List, ◌++◌, map, ◌⊎◌, ℕ, ◌+◌, ◌-◌, ◌≤◌, leb, length, take, Result, Ok, Err}
+use Rattle.definition.specs.declared.refusal.Refusal.{Refusal as Reason}
+use Rattle.definition.specs.Answer.{refusal_number}
 use Rattle.definition.specs.Lists.{in_order}
 use Rattle.definition.specs.Message.{output_key}
 use Rattle.definition.specs.State.{Process, Entry, Mail, entry_key, before, from, sent_from, counted, minus, without}
@@ -11,8 +13,6 @@ use Rattle.queue.specs.Queues.{sent_at, Parted}
 use Rattle.history.specs.Rows.{InOrder, saved_at}
 use Rattle.memory.specs.Memory.{Rows, number, process_of}
 use Rattle.deliver.specs.declared.Rollback.{Rollback}
-use Rattle.deliver.specs.declared.Plan.{Plan}
-use Rattle.deliver.specs.declared.Plan.TheVariants.{Go, Refuse}
 
 -- ---- the rollback of one process
 
@@ -27,7 +27,7 @@ pub record Ordered (outputs own : Rows) : Type 0 where
 
 -- to time t: what it keeps, and how much it removes
 pub record RolledBack (outputs own : Rows) (t : ℕ) (r : Rollback) : Type 0 where
-  pub sends_kept : Parted message_of sent_at outputs (number own 1) t r.sends
+  pub sends_kept : Parted message_of sent_at (take (number own 1) outputs) t r.sends
   pub few_events : r.events ≤ number own 2
   pub events_kept : saved_at own r.events ≡ before t (saved_at own (number own 2))
   pub cancelled_sends : r.cancelled ≡ number own 1 - r.sends
@@ -61,9 +61,9 @@ pub record Going (inputs outputs own : Rows) (n : ℕ) (x : Mail) (r : Rollback)
   pub input_room : length (arrival x (process_of own inputs outputs)) ≤ 64
   pub transit_room : n - 1 + r.cancelled ≤ 128
 
-abbrev pub Planned : Rows → Rows → Rows → ℕ → Mail → Plan → Type 0
-Planned inputs outputs own n x (Refuse k) = Refusal n x (process_of own inputs outputs) k
-Planned inputs outputs own n x (Go r) = Going inputs outputs own n x r
+abbrev pub Planned : Rows → Rows → Rows → ℕ → Mail → Result Rollback Reason → Type 0
+Planned inputs outputs own n x (Err k) = Refusal n x (process_of own inputs outputs) (refusal_number k)
+Planned inputs outputs own n x (Ok r) = Going inputs outputs own n x r
 
 -- it is made, from place i of transit
 pub record Carried (inputs outputs transit own : Rows) (n i : ℕ) (x : Mail) (r : Rollback) (inputs' transit' own' : Rows) : Type 0 where

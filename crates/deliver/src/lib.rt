@@ -1,8 +1,9 @@
-// The call Deliver, on a memory that is lawful. It is judged first, over shared references, and then carried out: so a refusal writes nothing.
-// Both work on the rows of the one process that receives.
+// The call Deliver, on a memory that is lawful. It is judged first, over shared references, and then carried out: so a refusal writes nothing. Both
+// work on the rows of the one process that receives. The lists come one by one, for the reason that `memory::Lent` tells.
 #![tactic(auto)]
 
 ghost use Rattle.std.specs.Prelude.{◌≡◌, ◌≤◌, ◌<◌, length};
+ghost use Rattle.definition.specs.Answer.{answer_of};
 ghost use Rattle.definition.specs.declared.Answer.TheVariants.{Delivered};
 ghost use Rattle.definition.specs.declared.Call.TheVariants.{Deliver};
 ghost use Rattle.definition.specs.State.{before};
@@ -13,8 +14,10 @@ ghost use Rattle.memory.specs.Promise.{Ready, Kept};
 ghost use Rattle.deliver.specs.Plan.{Ordered, RolledBack, Sound, Planned, Going, Carried};
 
 use definition::lent::{Own, Queue, Row, Rules, WHOLE};
-use definition::refusal::{BAD_STATE, NO_ROOM, NOTHING_THERE};
+use definition::numbers::{QUEUE, TRANSIT};
+use definition::refusal::Refusal;
 use definition::{Answer, Stand, Time};
+use history::History;
 use memory::{ENTRIES, EVENTS, MAILS, OUTPUTS};
 use queue::rows::{RECEIVED, RECEIVER};
 
@@ -27,12 +30,6 @@ pub struct Rollback {
     pub undone: usize,
 }
 
-#[derive(Clone, Copy)]
-pub enum Plan {
-    Go(Rollback),
-    Refuse(u32),
-}
-
 // How many of so many events a rollback to a time keeps. Where the last one is before that time it keeps all, and no history is loaded.
 fn events_kept(own: &[Row], events: usize, time: Time) -> usize
     requires events_bound { (events ≤ 32) × (events < length own.now) }
@@ -43,7 +40,7 @@ fn events_kept(own: &[Row], events: usize, time: Time) -> usize
     if last.time < time {
         return events;
     }
-    let left = history::cut_back(history::load(own, events), time);
+    let left = History::load(own, events).cut_back(time);
     left.count
 }
 
@@ -53,9 +50,9 @@ fn roll_back(outputs: &[Row], own: &[Row], time: Time) -> Rollback
     ensures { RolledBack outputs.now own.now time result }
 {
     let counts = own[0];
-    let sends = memory::size(counts[OUTPUTS]);
-    let kept = queue::output::sent_before(outputs, sends, time);
-    let events = memory::size(counts[EVENTS]);
+    let sends = counts[OUTPUTS] as usize;
+    let kept = queue::output::sent_before(&outputs[..sends], time);
+    let events = counts[EVENTS] as usize;
     let left = events_kept(own, events, time);
     Rollback {
         sends: kept,
@@ -65,28 +62,28 @@ fn roll_back(outputs: &[Row], own: &[Row], time: Time) -> Rollback
     }
 }
 
-// The rollback that message m brings to the process that these rows hold, beside so many messages in transit, or the number that refuses its
-// delivery. Nothing is written.
-fn judge(inputs: &[Row], outputs: &[Row], own: &[Row], mails: usize, m: Row) -> Plan
+// The rollback that message m brings to the process that these rows hold, beside so many messages in transit, or what refuses its delivery.
+// Nothing is written.
+fn judge(
+    inputs: &[Row],
+    outputs: &[Row],
+    own: &[Row],
+    mails: usize,
+    m: Row,
+) -> Result<Rollback, Refusal>
     requires sound { Sound inputs.now outputs.now own.now }
     requires mails_nonzero { (0 < mails) × (mails ≤ 128) }
     ensures { Planned inputs.now outputs.now own.now mails (mail_of m) result }
 {
     let counts = own[0];
-    let entries = memory::size(counts[ENTRIES]);
+    let entries = counts[ENTRIES] as usize;
     let anti = queue::transit::is_anti(m);
-    let arrival = queue::input::judge(inputs, entries, m, anti);
-    if arrival.passes {
-        return Plan::Refuse(BAD_STATE);
-    }
+    let rows = queue::input::judge(&inputs[..entries], m, anti).ok_or(Refusal::BadState)?;
     let back = roll_back(outputs, own, m[RECEIVED]);
-    if 128 < mails - 1 + back.cancelled {
-        return Plan::Refuse(NO_ROOM);
+    if TRANSIT < mails - 1 + back.cancelled || QUEUE < rows {
+        return Err(Refusal::NoRoom);
     }
-    if 64 < arrival.rows {
-        return Plan::Refuse(NO_ROOM);
-    }
-    Plan::Go(back)
+    Ok(back)
 }
 
 // Message m leaves its place in transit, the antimessages join the end, and the message is counted at its receiver, whose rows these are. Of its
@@ -107,9 +104,9 @@ fn carry_out(
     ensures { Carried inputs.old outputs.now transit.old own.old mails place (mail_of m) back inputs.new transit.new own.new }
 {
     let counts = own[0];
-    let sends = memory::size(counts[OUTPUTS]);
-    queue::transit::exchange(transit, mails, place, outputs, back.sends, sends);
-    let entries = memory::size(counts[ENTRIES]);
+    let sends = counts[OUTPUTS] as usize;
+    queue::transit::exchange(transit, mails, place, &outputs[back.sends..sends]);
+    let entries = counts[ENTRIES] as usize;
     let anti = queue::transit::is_anti(m);
     let rows = queue::input::count(inputs, entries, m, anti);
     own[0] = memory::with_counts(counts, rows, back.sends, back.events);
@@ -121,8 +118,8 @@ fn answer(back: Rollback) -> Answer
     ensures { result ≡ Delivered back.undone back.cancelled }
 {
     Answer::Delivered {
-        undone: memory::word(back.undone),
-        cancelled: memory::word(back.cancelled),
+        undone: back.undone as u32,
+        cancelled: back.cancelled as u32,
     }
 }
 
@@ -134,35 +131,30 @@ pub fn deliver(
     transit: &mut [Row],
     own: &mut [Own],
     place: u32,
-) -> Answer
+) -> Result<Answer, Refusal>
     requires { Ready (held model.now inputs.old outputs.now transit.old own.old) }
-    ensures { Kept (held model.now inputs.old outputs.now transit.old own.old) (Deliver place) result (held model.now inputs.new outputs.now transit.new own.new) }
+    ensures { Kept (held model.now inputs.old outputs.now transit.old own.old) (Deliver place) (answer_of result) (held model.now inputs.new outputs.now transit.new own.new) }
 {
     let at = place as usize;
     let whole = own[WHOLE][0];
-    let mails = memory::size(whole[MAILS]);
+    let mails = whole[MAILS] as usize;
     if mails <= at {
-        return Answer::Refused(NOTHING_THERE);
+        return Err(Refusal::NothingThere);
     }
     let m = transit[at];
-    let p = memory::size(m[RECEIVER]);
+    let p = m[RECEIVER] as usize;
     let sent = &outputs[p];
-    let plan = judge(&inputs[p], sent, &own[p], mails, m);
-    match plan {
-        Plan::Refuse(number) => Answer::Refused(number),
-        Plan::Go(back) => {
-            carry_out(
-                &mut inputs[p],
-                sent,
-                transit,
-                &mut own[p],
-                mails,
-                at,
-                m,
-                back,
-            );
-            own[WHOLE][0] = memory::with_mails(whole, mails - 1 + back.cancelled);
-            answer(back)
-        }
-    }
+    let back = judge(&inputs[p], sent, &own[p], mails, m)?;
+    carry_out(
+        &mut inputs[p],
+        sent,
+        transit,
+        &mut own[p],
+        mails,
+        at,
+        m,
+        back,
+    );
+    own[WHOLE][0] = memory::with_mails(whole, mails - 1 + back.cancelled);
+    Ok(answer(back))
 }

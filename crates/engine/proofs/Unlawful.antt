@@ -4,7 +4,7 @@ use mathlib.Core.Bool.{Bool, true, false, not}
 use mathlib.Core.List.{List}
 use Prim.Native.Nat.{ℕ}
 use native.Mathlib.Omega.{arith}
-use Rattle.definition.specs.declared.Answer.TheVariants.{Refused}
+use Rattle.definition.specs.Answer.{Refused}
 use Rattle.definition.specs.declared.Call.TheVariants.{Advance}
 use Rattle.definition.specs.Record.{onto}
 use Rattle.definition.specs.Calls.{refuse}

@@ -5,8 +5,7 @@ use Rattle.std.proofs.Math.Path.{◌≡◌, refl, sym, ap}
 use Rattle.std.proofs.Common.{◌∙◌, append_assoc, append-nil, arith, take_at}
 use Rattle.std.specs.Prelude.{Bool, ◌&&◌, List, [], ◌∷◌, ◌++◌, ℕ, length, take}
 use Rattle.std.proofs.Math.Bool.{true, false, not}
-use Rattle.definition.specs.declared.Answer.{Answer}
-use Rattle.definition.specs.declared.Answer.TheVariants.{Started}
+use Rattle.definition.specs.Answer.{Answer, Started}
 use Rattle.definition.specs.declared.Call.{Call}
 use Rattle.definition.specs.declared.Call.TheVariants.{Advance}
 use Rattle.definition.specs.Lists.{all}

@@ -1,15 +1,13 @@
 -- The sends of a rule one after the other, one message, and one row.
-use Prim.Native.Nat.{ℕ, zero, suc, ◌+◌, ◌≤◌, min}
-use mathlib.Core.Path.{◌≡◌, refl, sym, ap, ◌∙◌, subst}
-use mathlib.Core.Bool.{Bool, true, false, cond}
-use mathlib.Core.List.{List, [], ◌∷◌, ◌++◌, map, append-nil}
-use mathlib.Core.Option.{some}
-use native.Mathlib.Omega.{arith}
-use native.Mathlib.Numerals.{add-one}
-use lib.Dec.{leb}
-use lib.ListN.{length, take, length-take, length-append}
-use lib.Seq.{take_all}
+use Rattle.std.specs.Prelude.{ℕ, zero, suc, ◌≡◌, refl, Bool, true, false, cond, Option, Some, None, List, [], ◌∷◌, ◌++◌, ◌+◌, ◌≤◌, ◌<◌, min, leb, map, length, get_or, take, drop}
+use Rattle.std.proofs.Common.{ap, sym, ◌∙◌, arith, add-one, add-zero, append_assoc, append-nil, length-take, length-take-le, length-append, take-append-drop}
+use Rattle.std.proofs.Math.Option.{some}
+use Rattle.std.proofs.Math.Seq.{take-nil}
+use Rattle.std.proofs.lemmas.List.{take_more}
+use Rattle.std.proofs.lemmas.List.Sums.{count_by-le-length, length-filter}
+use Rattle.std.specs.List.{filter}
 use Rattle.definition.specs.declared.Send.{Send}
+use Rattle.definition.specs.declared.Value.TheVariants.{Fixed}
 use Rattle.definition.specs.declared.Stand.{Stand}
 use Rattle.definition.specs.Message.{Message, last_usable}
 use Rattle.definition.specs.Model.{Rule, Done, effect_on, value_of, find, send_all, read_by, read_all}
@@ -17,11 +15,9 @@ use Rattle.queue.specs.Rows.{message_of, message_from, entry_of}
 use Rattle.queue.specs.Queues.{is_read}
 use Rattle.rule.specs.declared.Decoded.{Decoded}
 use Rattle.rule.specs.Rows.{rule_of, rule_at}
-use Rattle.found.specs.declared.Found.{Found}
-use Rattle.found.specs.declared.Found.TheVariants.{Rule as Match, Nothing}
 use Rattle.found.specs.Search.{found_among, finds}
 use Rattle.event.specs.declared.Walk.{Walk}
-use Rattle.event.specs.Event.{Counted, Within, Moved, Answered, read_of, done_from, RowRead}
+use Rattle.event.specs.Event.{Counted, Within, Moved, Answered, read_of, done_from, RowRead, RowSends}
 
 -- ---- how far an event has come
 
@@ -44,8 +40,12 @@ still w r k h es eo er ek =
 
 -- ---- sends
 
+-- one that is not there
+abbrev pub no_send : Send
+no_send = record { receiver = 0; delay = 0; kind = 0; value = Fixed 0 }
+
 module _ (p t o y v : ℕ) where
-  sends_none : send_all p t o y v [] ≡ []
+  pub sends_none : send_all p t o y v [] ≡ []
   unfolding send_all
   sends_none = refl
 
@@ -78,21 +78,51 @@ module _ (p t o y v : ℕ) where
         go true = refl
         go false = refl
 
--- no more messages than sends
-sends_few : (p t o y v : ℕ) (ss : List Send) → length (send_all p t o y v ss) ≤ length ss
+module _ (p t y v : ℕ) where
+  sends_append : (o : ℕ) (ss rest : List Send) → send_all p t o y v (ss ++ rest) ≡ send_all p t o y v ss ++ send_all p t (o + length ss) y v rest
+  unfolding send_all
+  sends_append o [] rest = rw add-zero
+  sends_append o (s ∷ ss) rest =
+      let after : o + 1 + length ss ≡ o + suc (length ss) = omega arith in
+      sends_cons p t o y v s (ss ++ rest)
+      ∙ ap (λ (l : List Message). send_all p t o y v (s ∷ []) ++ l) (sends_append (o + 1) ss rest)
+      ∙ rw (after, sends_cons p t o y v s ss) (sym (append_assoc (send_all p t o y v (s ∷ [])) (send_all p t (o + 1) y v ss) (send_all p t (o + suc (length ss)) y v rest)))
+
+  -- one send more: it has the ordinal of its place, and there is room for it
+  module _ (o : ℕ) (ss : List Send) (i : ℕ) (h : i < length ss) where
+    pub sends_more : send_all p t o y v (take (i + 1) ss) ≡ send_all p t o y v (take i ss) ++ send_all p t (o + i) y v (get_or ss i no_send ∷ [])
+    sends_more =
+        let fits : i ≤ length ss = omega arith in
+        rw (take_more ss i no_send h) (sends_append o (take i ss) (get_or ss i no_send ∷ []) ∙ rw (length-take-le i ss fits))
+
+    pub sends_room : length (send_all p t o y v (take i ss)) + length (send_all p t (o + i) y v (get_or ss i no_send ∷ [])) ≤ length (send_all p t o y v ss)
+    sends_room =
+        let all = ap length (ap (send_all p t o y v) (sym (take-append-drop (i + 1) ss)) ∙ sends_append o (take (i + 1) ss) (drop (i + 1) ss)) ∙ length-append (send_all p t o y v (take (i + 1) ss)) _ in
+        let some = ap length sends_more ∙ length-append (send_all p t o y v (take i ss)) _ in
+        omega (arith, all, some)
+
+-- ---- how many are sent
+
+abbrev pub sent_at : ℕ → Send → Bool
+sent_at t s = leb (t + s.delay) last_usable
+
+sends_counted : (p t o y v : ℕ) (ss : List Send) → length (filter (sent_at t) ss) ≡ length (send_all p t o y v ss)
 unfolding send_all
-sends_few p t o y v [] = omega arith
-sends_few p t o y v (s ∷ ss) = go (leb (t + s.delay) last_usable) (sends_few p t (suc o) y v ss)
+sends_counted p t o y v [] = refl
+sends_counted p t o y v (s ∷ ss) = go (sent_at t s) (sends_counted p t (suc o) y v ss)
   where
     rest : List Message
     rest = send_all p t (suc o) y v ss
 
-    go : (b : Bool) → length rest ≤ length ss → length (cond b (message_by p t o y v s ∷ rest) rest) ≤ suc (length ss)
-    go true h = omega arith
-    go false h = omega arith
+    go : (b : Bool) → length (filter (sent_at t) ss) ≡ length rest → length (cond b (s ∷ filter (sent_at t) ss) (filter (sent_at t) ss)) ≡ length (cond b (message_by p t o y v s ∷ rest) rest)
+    go true h = ap suc h
+    go false h = h
+
+pub counted : (t : ℕ) (ss : List Send) (k : ℕ) → k ≡ length (filter (sent_at t) ss) → Counted t ss k
+counted t ss k e p o y v = e ∙ sends_counted p t o y v ss
 
 pub counted_few : (t : ℕ) (ss : List Send) (k : ℕ) → Counted t ss k → k ≤ length ss
-counted_few t ss k e = omega (arith, e 0 0 0 0, sends_few 0 t 0 0 0 ss)
+counted_few t ss k e = omega (arith, e 0 0 0 0, sends_counted 0 t 0 0 0 ss, length-filter (sent_at t) ss, count_by-le-length (sent_at t) ss)
 
 -- ---- the sends of a rule, by their count
 
@@ -103,28 +133,13 @@ module _ (d : Decoded) where
   pub rule_length : length (rule_of d).sends ≡ min d.count 2
   rule_length = length-take d.count both
 
-  module _ (p t o y v : ℕ) where
-    abbrev sent : List Send → List Message
-    sent ss = send_all p t o y v ss
-
-    pub rule_none : d.count ≡ 0 → sent (rule_of d).sends ≡ []
-    rule_none e = ap (λ (n : ℕ). sent (take n both)) e ∙ sends_none p t o y v
-
-    pub rule_one : d.count ≡ 1 → sent (rule_of d).sends ≡ sent (d.first ∷ [])
-    rule_one e = ap (λ (n : ℕ). sent (take n both)) e
-
-    pub rule_two : (d.count ≡ 0 → ⊥) → (d.count ≡ 1 → ⊥) → sent (rule_of d).sends ≡ sent (d.first ∷ []) ++ send_all p t (o + 1) y v (d.second ∷ [])
-    rule_two a b = ap sent (take_all d.count both (two d.count a b)) ∙ sends_cons p t o y v d.first (d.second ∷ [])
-      where
-        two : (n : ℕ) → (n ≡ 0 → ⊥) → (n ≡ 1 → ⊥) → 2 ≤ n
-        two n a b = omega arith
-
-    pub rule_first : (d.count ≡ 0 → ⊥) → length (sent (d.first ∷ [])) ≤ length (sent (rule_of d).sends)
-    rule_first = go d.count
-      where
-        go : (n : ℕ) → (n ≡ 0 → ⊥) → length (send_all p t o y v (d.first ∷ [])) ≤ length (send_all p t o y v (take n both))
-        go zero h = absurd (h refl)
-        go (suc n) h = omega (arith, ap length (sends_cons p t o y v d.first (take n (d.second ∷ []))) ∙ length-append (send_all p t o y v (d.first ∷ [])) _)
+  pub rule_sends : (n : ℕ) → n ≡ length (rule_of d).sends → take n both ≡ (rule_of d).sends
+  rule_sends n e = ap (λ (k : ℕ). take k both) e ∙ go d.count
+    where
+      go : (k : ℕ) → take (length (take k both)) both ≡ take k both
+      go zero = refl
+      go (suc zero) = refl
+      go (suc (suc k)) = ap (λ (l : List Send). d.first ∷ d.second ∷ l) (take-nil (length (take {A = Send} k [])) ∙ sym (take-nil k))
 
 -- ---- one message that a rule answers: the stand, the ordinals used and the messages are those of the rule
 
@@ -161,27 +176,38 @@ module _ (rules : List (List ℕ)) (t : ℕ) (e : List ℕ) (w : Walk) where
   row p = done_from rules p t w (read_of t e)
 
   -- f is found for the row's message
-  abbrev Finds : Found → Type 0
+  abbrev Finds : Option Decoded → Type 0
   Finds f = f ≡ found_among rules w.stand.mode (message_of e).kind
 
   module _ (i : is_read t (entry_of e) ≡ true) where
-    pub row_answered : (d : Decoded) (p : ℕ) → Finds (Match d) → row p ≡ read_by (some (rule_of d)) p t w.ordinal w.stand (message_of e).value
+    row_answered : (d : Decoded) (p : ℕ) → Finds (Some d) → row p ≡ read_by (some (rule_of d)) p t w.ordinal w.stand (message_of e).value
     row_answered d p f = rw (i, read_one (map rule_at rules) p t w.ordinal w.stand (message_of e), ← finds rules w.stand.mode (message_of e).kind, ← f)
 
-    pub row_unanswered : (p : ℕ) → Finds Nothing → row p ≡ nothing w
+    row_unanswered : (p : ℕ) → Finds None → row p ≡ nothing w
     unfolding read_by
     row_unanswered p f = rw (i, read_one (map rule_at rules) p t w.ordinal w.stand (message_of e), ← finds rules w.stand.mode (message_of e).kind, ← f)
 
-    pub read_answered : (d : Decoded) (r : Walk) → Finds (Match d) → Answered d t (message_of e).value w r → RowRead rules t e w r
-    read_answered d r f a p = subst (λ (x : Done). Moved (length (read_of t e)) x w r) (sym (row_answered d p f)) (rw i (a p))
+    module _ (d : Decoded) (r : Walk) (f : Finds (Some d)) (a : Answered d t (message_of e).value w r) where
+      pub read_answered : RowRead rules t e w r
+      read_answered p = rw (row_answered d p f) (rw i (a p))
 
-    pub read_unanswered : (r : Walk) → Finds Nothing → r ≡ record { stand = w.stand; ordinal = w.ordinal; read = w.read + 1; sent = w.sent } → RowRead rules t e w r
-    read_unanswered r f k p = subst (λ (x : Done). Moved (length (read_of t e)) x w r) (sym (row_unanswered p f)) (rw i (still w r 1 (omega arith) (ap (λ (x : Walk). x.stand) k) (ap (λ (x : Walk). x.ordinal) k) (ap (λ (x : Walk). x.read) k) (ap (λ (x : Walk). x.sent) k)))
+      pub sends_answered : RowSends rules t e w r (Some d)
+      sends_answered p = rw (row_answered d p f) (answer_sends t (message_of e).value w d r p a)
+
+    module _ (f : Finds None) where
+      pub read_unanswered : (r : Walk) → r ≡ record w { read = w.read + 1 } → RowRead rules t e w r
+      read_unanswered r k p = rw (row_unanswered p f) (rw i (still w r 1 (omega arith) (ap (λ (x : Walk). x.stand) k) (ap (λ (x : Walk). x.ordinal) k) (ap (λ (x : Walk). x.read) k) (ap (λ (x : Walk). x.sent) k)))
+
+      pub sends_unanswered : (r : Walk) → RowSends rules t e w r None
+      sends_unanswered r p = ap (λ (x : Done). x.sends) (row_unanswered p f)
 
   module _ (i : is_read t (entry_of e) ≡ false) where
-    pub row_passed : (p : ℕ) → row p ≡ nothing w
+    row_passed : (p : ℕ) → row p ≡ nothing w
     unfolding read_all
     row_passed p = rw i
 
     pub read_passed : RowRead rules t e w w
-    read_passed p = subst (λ (x : Done). Moved (length (read_of t e)) x w w) (sym (row_passed p)) (rw i (still w w 0 (omega arith) refl refl (omega arith) refl))
+    read_passed p = rw (row_passed p) (rw i (still w w 0 (omega arith) refl refl (omega arith) refl))
+
+    pub sends_passed : RowSends rules t e w w None
+    sends_passed p = ap (λ (x : Done). x.sends) (row_passed p)

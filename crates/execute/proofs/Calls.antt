@@ -3,11 +3,11 @@ use Prim.Native.Nat.{ℕ, zero, suc, ◌+◌, ◌≤◌, ◌<◌}
 use mathlib.Core.Path.{◌≡◌, refl, sym, ap, ap₂, ◌∙◌}
 use mathlib.Core.Bool.{Bool, true, false, cond, not, ◌&&◌}
 use mathlib.Core.List.{List, [], ◌∷◌, map}
-use native.Mathlib.Omega.{arith}
 use lib.Dec.{leb}
 use lib.ListN.{length, length-append, length-map}
 use borrow.Author.Tests.{le-leb, lt-leb}
-use Rattle.definition.specs.declared.Answer.TheVariants.{Refused}
+use Rattle.definition.specs.declared.refusal.Refusal.{Refusal}
+use Rattle.definition.specs.Answer.{refusal_number, refusal_not_0, Refused}
 use Rattle.definition.specs.declared.Call.TheVariants.{Execute}
 use Rattle.definition.specs.declared.Saved.{Saved}
 use Rattle.definition.specs.Message.{Message, never}
@@ -61,9 +61,12 @@ module _ (s : State) (ok : bad s ≡ false) (p : ℕ) where
         check_no (bad s) 16 s (execute s p) ok ∙ check_no (leb (length s.model) p) 1 s _ (lt-leb (length s.model) p there)
         ∙ ap (λ (b : Bool). check (leb never t) 6 s (check (not b) 7 s (execution s p))) fits_is ∙ two_tests (leb never t) (room (length sends) (length s.transit) (length (process s p).output) (length (process s p).history)) s (execution s p)
 
-    pub refused : (n : ℕ) → n ≡ number → 0 < n → (call s (Execute p)).answer ≡ Refused n
-    refused zero e h = absurd (omega arith)
-    refused (suc n) e h = ap (λ (r : Result). r.answer) (execute_is ∙ ap (λ (k : ℕ). by_number k s (execution s p)) (sym e))
+    pub refused : (r : Refusal) → refusal_number r ≡ number → (call s (Execute p)).answer ≡ Refused (refusal_number r)
+    refused r e = go (refusal_number r) e (refusal_not_0 r)
+      where
+        go : (n : ℕ) → n ≡ number → (n ≡ 0 → ⊥) → (call s (Execute p)).answer ≡ Refused n
+        go zero e h = absurd (h refl)
+        go (suc n) e h = ap (λ (r : Result). r.answer) (execute_is ∙ ap (λ (k : ℕ). by_number k s (execution s p)) (sym e))
 
     pub accepted : number ≡ 0 → call s (Execute p) ≡ execution s p
     accepted e = execute_is ∙ ap (λ (k : ℕ). by_number k s (execution s p)) e

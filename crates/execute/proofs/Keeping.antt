@@ -5,13 +5,16 @@ use mathlib.Core.Bool.{true, false}
 use mathlib.Core.List.{List, [], ◌++◌, map}
 use native.Mathlib.Omega.{arith}
 use lib.ListN.{length, get_or, set, length-set}
-use lib.Seq.{set-get_or}
-use Rattle.definition.specs.declared.Answer.TheVariants.{Refused, Executed}
+use lib.Seq.{set-get_or, get_or-set_same}
+use borrow.Author.Tests.{le-leb, lt-leb}
+use Rattle.definition.specs.declared.refusal.Refusal.{Refusal}
+use Rattle.definition.specs.Answer.{refusal_number, Refused, Executed}
 use Rattle.definition.specs.declared.Call.TheVariants.{Execute}
 use Rattle.definition.specs.declared.Saved.{Saved}
 use Rattle.definition.specs.Lists.{in_order}
+use Rattle.definition.specs.Message.{never}
 use Rattle.definition.specs.Model.{Setup, Done, read_all, event}
-use Rattle.definition.specs.State.{Process, State, process, plus, last, reads_at, unread}
+use Rattle.definition.specs.State.{Process, State, process, plus, last, reads_at, unread, entry_key}
 use Rattle.definition.specs.Calls.{Result, done, work, executed}
 use Rattle.definition.specs.BadState.{bad, call}
 use Rattle.laws.specs.Slices.{map_take_length}
@@ -19,7 +22,6 @@ use Rattle.lawful.specs.Changes.{worked}
 use Rattle.lawful.specs.Kept.{kept}
 use Rattle.lawful.specs.Open.{lawful as sane, process_of_lem}
 use Rattle.queue.specs.Rows.{message_of, mails}
-use Rattle.definition.specs.State.{entry_key}
 use Rattle.history.specs.Laws.{saved_at_length}
 use Rattle.rule.specs.Rows.{rule_rows, processes_of, model_of}
 use Rattle.rule.specs.Laws.{setup_at_lem}
@@ -28,11 +30,18 @@ use Rattle.memory.specs.Laws.{Shape, ShapeAt, lawful_shape, lawful_sane, shape_s
 use Rattle.memory.specs.Promise.{Kept}
 use Rattle.memory.specs.Keeping.{kept_refused, kept_done}
 use Rattle.execute.specs.declared.Due.{Due}
-use Rattle.execute.specs.declared.Plan.TheVariants.{Go, No}
-use Rattle.execute.specs.Plan.{Sound, last_of, unread_of, reads_of, due_of, refusal, refusal_of, Going, Judged, Carried}
+use Rattle.execute.specs.Plan.{Sound, last_of, unread_of, reads_of, due_of, refusal, refusal_of, Going, Carried}
 use Rattle.execute.proofs.Calls.{not_in_model, refused, accepted}
-use Rattle.execute.proofs.Judging.{going_clear}
-use Rattle.execute.proofs.Carrying.{first_row_lem}
+
+first_row_lem : (w : List (List ℕ)) (row : List ℕ) (k : ℕ) → 0 < length w → number (set w 0 row) k ≡ get_or row k 0
+first_row_lem w row k h = ap (λ (l : List ℕ). get_or l k 0) (get_or-set_same w 0 row [] h)
+
+-- an event that was judged is not refused
+going_clear : (rules own q : List (List ℕ)) (mails p : ℕ) (g : Due) → Going rules own q mails p g → refusal_of rules own q mails p ≡ 0
+unfolding refusal
+going_clear rules own q mails p g h =
+    let n : ℕ = length (due_of rules own q p).sends in
+    rw (lt-leb never (unread_of own q) h.usable, le-leb (mails + n) 128 (omega (arith, h.mail, h.sent)), le-leb (number own 1 + n) 64 (omega (arith, h.outputs, h.sent)), le-leb (number own 2 + 1) 32 (omega (arith, h.events)))
 
 same_result : {t t' r r' k k' : ℕ} {s s' : State} → t ≡ t' → r ≡ r' → k ≡ k' → s ≡ s' → done (Executed t r k) s ≡ done (Executed t' r' k') s'
 same_result a b c d = cc
@@ -72,7 +81,10 @@ module _ (m : Memory) (l : lawful m ≡ true) where
     here : p < length before.processes
     here = omega (arith, process_count m)
 
-    sound : Sound own q posted
+    pub outputs_long : length output ≡ 64
+    outputs_long = shape_here.outputs
+
+    pub sound : Sound own q posted
     sound = record {
       long = shape_here.own;
       wide = shape_here.inputs;
@@ -112,17 +124,9 @@ module _ (m : Memory) (l : lawful m ≡ true) where
     in_model : p < length before.model
     in_model = omega (arith, model_count m shape)
 
-    -- refused: nothing is written. The code has the rules as a slice, rs, and the count of transit as a size, k
-    module _ (rs : List (List ℕ)) (k : ℕ) (er : rs ≡ rules) (ek : k ≡ posted) where
-      pub sound_at : Sound own q k
-      sound_at = subst (Sound own q) (sym ek) sound
-
-      pub carries_out : (g : Due) → Judged rs own q k (Go g) → Sound own q k × (((length output ≡ 64) × (length m.transit ≡ 128)) × Going rs own q k p g)
-      carries_out g h = (sound_at, ((shape_here.outputs, shape.transit), h p))
-
-      pub kept_no : (n : ℕ) → Judged rs own q k (No n) → Kept m (Execute p) (Refused n) m
-      kept_no n h = kept_refused m (Execute p) n (shape_shaped m shape)
-          (refused before (lawful_sane m l) p in_model here few n ((h p).0 ∙ ap₂ (λ (r : List (List ℕ)) (j : ℕ). refusal_of r own q j p) er ek ∙ sym number_is) (h p).1)
+    -- refused: nothing is written
+    pub kept_no : (r : Refusal) → refusal_number r ≡ refusal_of rules own q posted p → Kept m (Execute p) (Refused (refusal_number r)) m
+    kept_no r e = kept_refused m (Execute p) (refusal_number r) (shape_shaped m shape) (refused before (lawful_sane m l) p in_model here few r (e ∙ sym number_is))
 
     -- carried out
     module _ (own' output' transit' : List (List ℕ)) (g : Due) (h : Going rules own q posted p g) (c : Carried rules own q output m.transit posted p own' output' transit')
@@ -183,22 +187,9 @@ module _ (m : Memory) (l : lawful m ≡ true) where
       after_sane : bad (state_of after) ≡ false
       after_sane = subst (λ (r : Result). bad r.after ≡ false) call_is (kept before (lawful_sane m l) (Execute p) refl)
 
-      keeps : Kept m (Execute p) (Executed g.event.time g.event.read g.sent)
+      pub keeps : Kept m (Execute p) (Executed g.event.time g.event.read g.sent)
           (record { model = m.model; inputs = m.inputs; outputs = set m.outputs p output'; transit = transit'; own = set (set m.own p own') 8 whole_rows })
       keeps = subst
           (λ (i : Table). Kept m (Execute p) (Executed g.event.time g.event.read g.sent) (record { model = m.model; inputs = i; outputs = set m.outputs p output'; transit = transit'; own = set (set m.own p own') 8 whole_rows }))
           (set-get_or m.inputs p [])
           (kept_done m (Execute p) after _ [] [] (shape_shaped m shape) refl call_is (shape_lawful after after_shape after_sane))
-
-    pub kept_going : (rs : List (List ℕ)) (k j : ℕ) (row : List ℕ) (g : Due) → rs ≡ rules → k ≡ posted → j ≡ g.sent → row ≡ with_mails (get_or (whole m) 0 []) (k + j) → Judged rs own q k (Go g)
-        → (own' output' transit' : List (List ℕ)) → Carried rs own q output m.transit k p own' output' transit' → length own' ≡ length own → length output' ≡ length output → length transit' ≡ length m.transit
-        → Kept m (Execute p) (Executed g.event.time g.event.read g.sent)
-        (record { model = m.model; inputs = m.inputs; outputs = set m.outputs p output'; transit = transit'; own = set (set m.own p own') 8 (set (get_or (set m.own p own') 8 []) 0 row) })
-    kept_going rs k j row g er ek ej e h own' output' transit' c long wide much =
-        let same : with_mails (get_or (whole m) 0 []) (posted + g.sent) ≡ row = cc in
-        let h' : Going rules own q posted p g = subst (λ (r : List (List ℕ)). Going r own q posted p g) er (subst (λ (n : ℕ). Going rs own q n p g) ek (h p)) in
-        let c' : Carried rules own q output m.transit posted p own' output' transit' =
-        subst (λ (r : List (List ℕ)). Carried r own q output m.transit posted p own' output' transit') er (subst (λ (n : ℕ). Carried rs own q output m.transit n p own' output' transit') ek c) in
-        subst (λ (r : List ℕ). Kept m (Execute p) (Executed g.event.time g.event.read g.sent)
-        (record { model = m.model; inputs = m.inputs; outputs = set m.outputs p output'; transit = transit'; own = set (set m.own p own') 8 (set (get_or (set m.own p own') 8 []) 0 r) })) same
-        (keeps own' output' transit' g h' c' long wide much)

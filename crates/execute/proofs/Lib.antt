@@ -1,4 +1,3 @@
 pub mod Calls
-pub mod Judging
-pub mod Carrying
 pub mod Keeping
+pub mod Reading

@@ -1,6 +1,8 @@
 -- The event that is due of one process, by its own rows and its input rows: the number that refuses it, what was judged, and what is left when it
 -- is carried out.
-use Rattle.std.specs.Prelude.{ℕ, ◌+◌, ◌≤◌, ◌<◌, ◌≡◌, Bool, true, cond, ◌&&◌, List, ◌++◌, map, leb, length}
+use Rattle.std.specs.Prelude.{ℕ, ◌+◌, ◌≤◌, ◌<◌, ◌≡◌, Bool, true, cond, ◌&&◌, List, ◌++◌, map, leb, length, take, Result, Ok, Err}
+use Rattle.definition.specs.declared.refusal.Refusal.{Refusal}
+use Rattle.definition.specs.Answer.{refusal_number}
 use Rattle.definition.specs.declared.Saved.{Saved}
 use Rattle.definition.specs.Lists.{in_order}
 use Rattle.definition.specs.Message.{Message, never}
@@ -13,8 +15,6 @@ use Rattle.history.specs.Rows.{saved_at}
 use Rattle.memory.specs.Memory.{number, process_of}
 use Rattle.event.specs.Event.{event_of}
 use Rattle.execute.specs.declared.Due.{Due}
-use Rattle.execute.specs.declared.Plan.{Plan}
-use Rattle.execute.specs.declared.Plan.TheVariants.{Go, No}
 
 -- rows that a lawful memory has for a process, beside so many rows in transit
 pub record Sound (own q : List (List ℕ)) (mails : ℕ) : Type 0 where
@@ -37,7 +37,7 @@ abbrev pub reads_of : List (List ℕ) → List (List ℕ) → List Message
 reads_of own q = reads_at (unread_of own q) (entries q (number own 0))
 
 abbrev pub due_of : List (List ℕ) → List (List ℕ) → List (List ℕ) → ℕ → Done
-due_of rules own q p = event_of rules q (number own 0) p (unread_of own q) (last_of own).stand
+due_of rules own q p = event_of rules (take (number own 0) q) p (unread_of own q) (last_of own).stand
 
 -- there is room for so many messages more and an event more
 abbrev pub room : ℕ → ℕ → ℕ → ℕ → Bool
@@ -54,7 +54,7 @@ refusal_of rules own q mails p = refusal (unread_of own q) (length (due_of rules
 pub record Going (rules own q : List (List ℕ)) (mails p : ℕ) (g : Due) : Type 0 where
   pub event : g.event ≡ record { time = unread_of own q; read = length (reads_of own q); stand = (due_of rules own q p).stand }
   pub usable : unread_of own q < never
-  pub from : Parted entry_of received_at q (number own 0) (unread_of own q) g.from
+  pub from : Parted entry_of received_at (take (number own 0) q) (unread_of own q) g.from
   pub sent : g.sent ≡ length (due_of rules own q p).sends
   pub before : g.before ≡ (last_of own).stand
   pub mail : mails + g.sent ≤ 128
@@ -62,9 +62,9 @@ pub record Going (rules own q : List (List ℕ)) (mails p : ℕ) (g : Due) : Typ
   pub events : number own 2 < 32
 
 -- whichever the process, p
-abbrev pub Judged : List (List ℕ) → List (List ℕ) → List (List ℕ) → ℕ → Plan → Type 0
-Judged rules own q mails (No n) = (p : ℕ) → (n ≡ refusal_of rules own q mails p) × (0 < n)
-Judged rules own q mails (Go g) = (p : ℕ) → Going rules own q mails p g
+abbrev pub Judged : List (List ℕ) → List (List ℕ) → List (List ℕ) → ℕ → Result Due Refusal → Type 0
+Judged rules own q mails (Err r) = (p : ℕ) → refusal_number r ≡ refusal_of rules own q mails p
+Judged rules own q mails (Ok g) = (p : ℕ) → Going rules own q mails p g
 
 -- what is left: the process has worked its event, and what it sent is in transit
 pub record Carried (rules own q output transit : List (List ℕ)) (n p : ℕ) (own' output' transit' : List (List ℕ)) : Type 0 where

@@ -1,8 +1,9 @@
 // The call Execute: the unread event of a process. It is judged first, over shared references, and nothing is written; then what was judged is
-// carried out.
+// carried out. The lists come one by one, for the reason that `memory::Lent` tells.
 #![tactic(auto)]
 
-ghost use Rattle.std.specs.Prelude.{◌≡◌, length};
+ghost use Rattle.std.specs.Prelude.{◌≡◌, ◌≤◌, length};
+ghost use Rattle.definition.specs.Answer.{answer_of};
 ghost use Rattle.definition.specs.declared.Answer.TheVariants.{Executed};
 ghost use Rattle.definition.specs.declared.Call.TheVariants.{Execute};
 ghost use Rattle.memory.specs.Memory.{held};
@@ -11,8 +12,9 @@ ghost use Rattle.execute.specs.Plan.{Sound, Judged, Going, Carried};
 
 use definition::lent::{Own, Queue, Row, RuleRow, Rules, WHOLE};
 use definition::numbers::{HISTORY, NEVER, QUEUE, TRANSIT};
-use definition::refusal::{BAD_ARGUMENT, IDLE, NO_ROOM};
+use definition::refusal::Refusal;
 use definition::{Answer, Saved, Stand};
+use event::Outbox;
 use memory::{ENTRIES, EVENTS, MAILS, MODE, OUTPUTS, TALLY};
 
 // An event that is due, as the history will keep it; the first row of the input queue that is not received before it; how many messages it sends;
@@ -21,55 +23,43 @@ use memory::{ENTRIES, EVENTS, MAILS, MODE, OUTPUTS, TALLY};
 pub struct Due {
     pub event: Saved,
     pub from: usize,
-    pub sent: u32,
+    pub sent: usize,
     pub before: Stand,
 }
 
-// What is to be done, or the number that refuses it.
-#[derive(Clone, Copy)]
-pub enum Plan {
-    Go(Due),
-    No(u32),
-}
-
-// What is due of a process, by its rules, its input rows and its own rows, where transit has `mails` rows. Nothing is written.
-fn judge(rules: &[RuleRow], q: &[Row], own: &[Row], mails: usize) -> Plan
+// What is due of a process, or what refuses it, by its rules, its input rows and its own rows, where transit has `mails` rows. Nothing is written.
+#[tactic(auto, unfolding(crate::specs::Plan::refusal))]
+fn judge(rules: &[RuleRow], q: &[Row], own: &[Row], mails: usize) -> Result<Due, Refusal>
     requires { Sound own.now q.now mails }
     ensures { Judged rules.now own.now q.now mails result }
 {
     let numbers = own[0];
-    let entries = memory::size(numbers[ENTRIES]);
-    let outputs = memory::size(numbers[OUTPUTS]);
-    let events = memory::size(numbers[EVENTS]);
+    let entries = &q[..numbers[ENTRIES] as usize];
+    let outputs = numbers[OUTPUTS] as usize;
+    let events = numbers[EVENTS] as usize;
     let base = Stand {
         mode: numbers[MODE],
         tally: numbers[TALLY],
     };
     let last = history::last(own, events, base);
-    let time = queue::input::unread(q, entries, last.time);
+    let time = queue::input::unread(entries, last.time);
     if NEVER <= time {
-        return Plan::No(IDLE);
+        return Err(Refusal::Idle);
     }
-    let from = queue::input::received_before(q, entries, time);
+    let from = queue::input::received_before(entries, time);
     let before = last.stand;
-    let end = event::outcome(rules, q, from, entries, time, before);
+    let end = event::outcome(rules, &entries[from..], time, before);
     let sent = end.sent;
-    if TRANSIT < mails + sent {
-        return Plan::No(NO_ROOM);
+    if TRANSIT < mails + sent || QUEUE < outputs + sent || HISTORY <= events {
+        return Err(Refusal::NoRoom);
     }
-    if QUEUE < outputs + sent {
-        return Plan::No(NO_ROOM);
-    }
-    if HISTORY <= events {
-        return Plan::No(NO_ROOM);
-    }
-    let read = memory::word(end.read);
+    let read = end.read as u32;
     let stand = end.stand;
     let event = Saved { time, read, stand };
-    Plan::Go(Due {
+    Ok(Due {
         event,
         from,
-        sent: memory::word(sent),
+        sent,
         before,
     })
 }
@@ -91,28 +81,39 @@ fn carry_out(
     ensures { Carried rules.now own.old q.now output.old transit.old mails process own.new output.new transit.new }
 {
     let numbers = own[0];
-    let entries = memory::size(numbers[ENTRIES]);
-    let outputs = memory::size(numbers[OUTPUTS]);
-    let events = memory::size(numbers[EVENTS]);
-    let sent = memory::size(due.sent);
+    let entries = &q[..numbers[ENTRIES] as usize];
+    let outputs = numbers[OUTPUTS] as usize;
+    let events = numbers[EVENTS] as usize;
     let event = due.event;
     let before = due.before;
+    let mut out = Outbox {
+        transit,
+        mails,
+        output,
+        sends: outputs,
+    };
     event::perform(
-        rules, q, due.from, entries, process, event.time, before, transit, mails, output, outputs,
+        rules,
+        &entries[due.from..],
+        process,
+        event.time,
+        before,
+        &mut out,
     );
     history::store_last(own, events, event);
-    own[0] = memory::with_counts(numbers, entries, outputs + sent, events + 1);
+    own[0] = memory::with_counts(numbers, entries.len(), out.sends, events + 1);
 }
 
 // "The answer gives time, messages read, messages sent."
 fn answer(due: Due) -> Answer
+    requires { due.sent ≤ 128 }
     ensures { result ≡ Executed due.event.time due.event.read due.sent }
 {
     let event = due.event;
     Answer::Executed {
         time: event.time,
         read: event.read,
-        sent: due.sent,
+        sent: due.sent as u32,
     }
 }
 
@@ -124,33 +125,28 @@ pub fn execute(
     transit: &mut [Row],
     own: &mut [Own],
     process: u32,
-) -> Answer
+) -> Result<Answer, Refusal>
     requires { Ready (held model.now inputs.now outputs.old transit.old own.old) }
-    ensures { Kept (held model.now inputs.now outputs.old transit.old own.old) (Execute process) result (held model.now inputs.now outputs.new transit.new own.new) }
+    ensures { Kept (held model.now inputs.now outputs.old transit.old own.old) (Execute process) (answer_of result) (held model.now inputs.now outputs.new transit.new own.new) }
 {
     if table::processes(model) <= process {
-        return Answer::Refused(BAD_ARGUMENT);
+        return Err(Refusal::BadArgument);
     }
     let p = process as usize;
     let numbers = own[WHOLE][0];
-    let mails = memory::size(numbers[MAILS]);
+    let mails = numbers[MAILS] as usize;
     let rules = table::rules(&model[p]);
-    let plan = judge(rules, &inputs[p], &own[p], mails);
-    match plan {
-        Plan::No(number) => Answer::Refused(number),
-        Plan::Go(due) => {
-            carry_out(
-                rules,
-                &inputs[p],
-                &mut outputs[p],
-                transit,
-                &mut own[p],
-                mails,
-                process,
-                due,
-            );
-            own[WHOLE][0] = memory::with_mails(numbers, mails + memory::size(due.sent));
-            answer(due)
-        }
-    }
+    let due = judge(rules, &inputs[p], &own[p], mails)?;
+    carry_out(
+        rules,
+        &inputs[p],
+        &mut outputs[p],
+        transit,
+        &mut own[p],
+        mails,
+        process,
+        due,
+    );
+    own[WHOLE][0] = memory::with_mails(numbers, mails + due.sent);
+    Ok(answer(due))
 }

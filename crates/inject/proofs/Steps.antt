@@ -2,14 +2,15 @@
 use mathlib.Core.Path.{◌≡◌, refl, sym, ap, ◌∙◌}
 use mathlib.Core.Bool.{Bool, true, false, cond, not, ◌||◌}
 use mathlib.Core.List.{List, [], ◌∷◌, ◌++◌}
-use Prim.Native.Nat.{ℕ, zero, suc, ◌+◌, ◌≤◌, ◌<◌}
+use Prim.Native.Nat.{ℕ, zero, suc, ◌+◌, ◌≤◌}
 use native.Mathlib.Omega.{arith}
 use native.Mathlib.Numerals.{add-one}
 use lib.Dec.{leb, ltb, eqb}
 use lib.ListN.{length, get_or, set, length-set}
 use lib.Seq.{get_or-set_same}
 use borrow.Author.Tests.{ltb-false, leb-true, not-false}
-use Rattle.definition.specs.declared.Answer.TheVariants.{Refused, Injected}
+use Rattle.definition.specs.declared.refusal.Refusal.{Refusal}
+use Rattle.definition.specs.Answer.{refusal_number, refusal_not_0, Refused, Injected}
 use Rattle.definition.specs.declared.Call.{Call}
 use Rattle.definition.specs.declared.Call.TheVariants.{Inject}
 use Rattle.definition.specs.Message.{Message, never, request}
@@ -69,9 +70,12 @@ module _ (m : Memory) (l : lawful m ≡ true) (n p t k v : ℕ) where
       ∙ rw (model_count m h, mail_count m h)
       (tests (bad_argument (processes_of m.model) n p t k) (ltb n (number (whole m) 2)) (ltb (number (whole m) 2) n) (ltb t (number (whole m) 1)) (not (leb (number (whole m) 0) 127)) s accepted)
 
-  pub refused : (x : ℕ) → x ≡ no → 0 < x → Kept m asked (Refused x) m
-  refused zero e h = absurd (omega arith)
-  refused (suc x) e h = kept_refused m asked (suc x) (shape_shaped m (lawful_shape m l)) (ap (λ (r : Result). r.answer) (call_is ∙ ap (λ (z : ℕ). by_number z s accepted) (sym e)))
+  pub refused : (r : Refusal) → refusal_number r ≡ no → Kept m asked (Refused (refusal_number r)) m
+  refused r e = go (refusal_number r) e (refusal_not_0 r)
+    where
+      go : (x : ℕ) → x ≡ no → (x ≡ 0 → ⊥) → Kept m asked (Refused x) m
+      go zero e h = absurd (h refl)
+      go (suc x) e h = kept_refused m asked (suc x) (shape_shaped m (lawful_shape m l)) (ap (λ (r : Result). r.answer) (call_is ∙ ap (λ (z : ℕ). by_number z s accepted) (sym e)))
 
   -- ---- a request that is not refused
 
@@ -80,10 +84,9 @@ module _ (m : Memory) (l : lawful m ≡ true) (n p t k v : ℕ) where
     pub next : n ≡ number (whole m) 2
     pub mail_room : number (whole m) 0 ≤ 127
 
-  pub fine : (x : ℕ) → x ≡ no → x ≤ 0 → Fine
-  fine x e h =
-      let z : no ≡ 0 = sym e ∙ (let y : x ≡ 0 = omega arith in y) in
-      let a = passed_by (bad_argument (processes_of m.model) n p t k) 0 _ z in
+  pub fine : 0 ≡ no → Fine
+  fine e =
+      let a = passed_by (bad_argument (processes_of m.model) n p t k) 0 _ (sym e) in
       let b = passed_by (ltb n (number (whole m) 2)) 1 _ a.1 in
       let c = passed_by (ltb (number (whole m) 2) n) 2 _ b.1 in
       let d = passed_by (ltb t (number (whole m) 1)) 3 _ c.1 in
@@ -100,7 +103,7 @@ module _ (m : Memory) (l : lawful m ≡ true) (n p t k v : ℕ) where
   -- ---- the memory after
 
   -- row is the request's, c the rows that were in transit
-  module _ (x : ℕ) (e : x ≡ no) (none : x ≤ 0) (w : word v ≡ true) (row : List ℕ) (is : message_of row ≡ request n p t k v) (c : ℕ) (count : c ≡ number (whole m) 0)
+  module _ (e : 0 ≡ no) (w : word v ≡ true) (row : List ℕ) (is : message_of row ≡ request n p t k v) (c : ℕ) (count : c ≡ number (whole m) 0)
       (transit : List (List ℕ)) (long : length transit ≡ length m.transit) (joined : mails transit (c + 1) ≡ mails m.transit c ++ (plus (message_of row) ∷ [])) where
     abbrev top : List ℕ
     top = with_request (get_or (whole m) 0 []) n
@@ -114,7 +117,7 @@ module _ (m : Memory) (l : lawful m ≡ true) (n p t k v : ℕ) where
     state_after : injected s (request n p t k v) ≡ state_of after
     unfolding state_of
     state_after =
-        let f = fine x e none in
+        let f = fine e in
         sym (whole_state m (lawful_shape m l) transit (set (whole m) 0 top)
         ∙ same_state refl refl
         (ap (λ (r : List ℕ). mails transit (get_or r 0 0)) first ∙ (rw count at joined) ∙ ap (λ (a : Message). mails m.transit (number (whole m) 0) ++ (plus a ∷ [])) is)
@@ -124,11 +127,11 @@ module _ (m : Memory) (l : lawful m ≡ true) (n p t k v : ℕ) where
 
     shape_after : Shape after
     shape_after =
-        let f = fine x e none in
+        let f = fine e in
         whole_shape m (lawful_shape m l) transit (set (whole m) 0 top) (long ∙ (lawful_shape m l).transit) (length-set (whole m) 0 top ∙ (lawful_shape m l).numbers) (rw first (omega (arith, f.mail_room)))
 
     result : call s asked ≡ done Injected (state_of after)
-    result = call_is ∙ ap (λ (z : ℕ). by_number z s accepted) (let y : no ≡ 0 = sym e ∙ (let q : x ≡ 0 = omega arith in q) in y) ∙ ap (done Injected) state_after
+    result = call_is ∙ ap (λ (z : ℕ). by_number z s accepted) (sym e) ∙ ap (done Injected) state_after
 
     pub made : Kept m asked Injected after
     made = kept_done m asked after Injected [] [] (shape_shaped m (lawful_shape m l)) refl result

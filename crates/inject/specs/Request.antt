@@ -1,6 +1,13 @@
 -- A request over the numbers of the whole: the number that refuses it, and these numbers after it.
-use Rattle.std.specs.Prelude.{Bool, cond, not, ◌||◌, List, [], ◌∷◌, ℕ, ◌+◌, leb, ltb, eqb, get_or}
+use Rattle.std.specs.Prelude.{Bool, cond, not, ◌||◌, List, [], ◌∷◌, ℕ, ◌+◌, leb, ltb, eqb, get_or, Result, Ok, Err}
+use Rattle.definition.specs.declared.refusal.Refusal.{Refusal}
+use Rattle.definition.specs.Answer.{refusal_number}
 use Rattle.definition.specs.Message.{never}
+
+-- the number of what refuses it, or 0
+abbrev pub told : Result (Unit {0}) Refusal → ℕ
+told (Ok x) = 0
+told (Err r) = refusal_number r
 
 -- refused by 1 whatever the state is; p processes
 abbrev pub bad_argument : ℕ → ℕ → ℕ → ℕ → ℕ → Bool

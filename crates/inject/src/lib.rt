@@ -1,50 +1,52 @@
-// The call Inject, on a memory that is lawful: the request is judged before anything is written.
+// The call Inject, on a memory that is lawful: the request is judged before anything is written. The lists come one by one, for the reason that
+// `memory::Lent` tells.
 #![tactic(auto)]
 
 ghost use Rattle.std.specs.Prelude.{◌≡◌, ◌≤◌, get_or};
+ghost use Rattle.definition.specs.Answer.{answer_of};
 ghost use Rattle.definition.specs.declared.Call.TheVariants.{Inject};
 ghost use Rattle.memory.specs.Memory.{held};
 ghost use Rattle.memory.specs.Promise.{Ready, Kept};
-ghost use Rattle.inject.specs.Request.{refusal, with_request};
+ghost use Rattle.inject.specs.Request.{told, refusal, with_request};
 
 use definition::lent::{Own, Queue, Row, Rules, WHOLE};
-use definition::numbers::{HIGHEST_KIND, LAST_REQUEST, NEVER, OUTSIDE};
-use definition::refusal::{ALREADY_HAVE, BAD_ARGUMENT, GAP, NO_ROOM, TOO_LATE};
+use definition::numbers::{HIGHEST_KIND, LAST_REQUEST, NEVER, OUTSIDE, TRANSIT};
+use definition::refusal::Refusal;
 use definition::{Answer, Time};
 use memory::{HORIZON, MAILS, NEXT, RECORDED};
 
-// The number that refuses the request, or 0.
-fn judge(whole: Row, processes: u32, number: u32, receiver: u32, time: Time, kind: u32) -> u32
-    ensures { result ≡ refusal whole processes number receiver time kind }
+// What refuses the request, if anything does.
+fn judge(
+    whole: Row,
+    processes: u32,
+    number: u32,
+    receiver: u32,
+    time: Time,
+    kind: u32,
+) -> Result<(), Refusal>
+    ensures { told result ≡ refusal whole processes number receiver time kind }
 {
-    if processes <= receiver {
-        return BAD_ARGUMENT;
-    }
-    if HIGHEST_KIND < kind {
-        return BAD_ARGUMENT;
-    }
-    if time == 0 {
-        return BAD_ARGUMENT;
-    }
-    if NEVER <= time {
-        return BAD_ARGUMENT;
-    }
-    if LAST_REQUEST < number {
-        return BAD_ARGUMENT;
+    if processes <= receiver
+        || HIGHEST_KIND < kind
+        || time == 0
+        || NEVER <= time
+        || LAST_REQUEST < number
+    {
+        return Err(Refusal::BadArgument);
     }
     if number < whole[NEXT] {
-        return ALREADY_HAVE;
+        return Err(Refusal::AlreadyHave);
     }
     if whole[NEXT] < number {
-        return GAP;
+        return Err(Refusal::Gap);
     }
     if time < whole[HORIZON] {
-        return TOO_LATE;
+        return Err(Refusal::TooLate);
     }
-    if 127 < whole[MAILS] {
-        return NO_ROOM;
+    if TRANSIT <= whole[MAILS] as usize {
+        return Err(Refusal::NoRoom);
     }
-    0
+    Ok(())
 }
 
 // The numbers of the whole with one more in transit and this request's number spent.
@@ -76,17 +78,14 @@ pub fn inject(
     time: Time,
     kind: u32,
     value: u32,
-) -> Answer
+) -> Result<Answer, Refusal>
     requires { Ready (held model.now inputs.now outputs.now transit.old own.old) }
-    ensures { Kept (held model.now inputs.now outputs.now transit.old own.old) (Inject number receiver time kind value) result (held model.now inputs.now outputs.now transit.new own.new) }
+    ensures { Kept (held model.now inputs.now outputs.now transit.old own.old) (Inject number receiver time kind value) (answer_of result) (held model.now inputs.now outputs.now transit.new own.new) }
 {
     let whole = own[WHOLE][0];
-    let refused = judge(whole, table::processes(model), number, receiver, time, kind);
-    if 0 < refused {
-        return Answer::Refused(refused);
-    }
+    judge(whole, table::processes(model), number, receiver, time, kind)?;
     let request = queue::rows::message(OUTSIDE, 0, number, receiver, time, kind, value);
-    queue::transit::append(transit, memory::size(whole[MAILS]), request);
+    queue::transit::append(transit, whole[MAILS] as usize, request);
     own[WHOLE][0] = with_request(whole, number);
-    Answer::Injected
+    Ok(Answer::Injected)
 }

@@ -7,7 +7,7 @@ use native.Mathlib.Omega.{arith}
 use native.Mathlib.Nat.{zero-add}
 use lib.ListN.{length, get_or, take, set, length-map, length-set, get_or-map}
 use lib.Seq.{get_or-set_same, get_or-set_other, get_or-take, ext_get_or}
-use Rattle.definition.specs.declared.Answer.TheVariants.{Refused, Started}
+use Rattle.definition.specs.Answer.{Refused, Started}
 use Rattle.definition.specs.declared.Stand.{Stand}
 use Rattle.definition.specs.Model.{Setup, Model, ok_model}
 use Rattle.definition.specs.State.{Process, State}

@@ -1,10 +1,9 @@
--- A test over the first n numbers: one that fails, and all that pass. And the lengths of the lists, by name.
-use mathlib.Core.Path.{◌≡◌, refl, sym, ◌∙◌}
-use mathlib.Core.Bool.{Bool, true, false}
+-- The lengths of the lists, by name; and which of them are left to test.
+use mathlib.Core.Path.{◌≡◌, refl}
+use mathlib.Core.Bool.{Bool, true, false, ◌&&◌}
 use mathlib.Core.List.{[]}
-use Prim.Native.Nat.{ℕ, ◌+◌, ◌<◌}
+use Prim.Native.Nat.{ℕ, ◌<◌, ◌≤◌}
 use native.Mathlib.Omega.{arith}
-use native.Mathlib.Decide.{ℕ_discrete}
 use native.Mathlib.Nat.{zero-add}
 use lib.ListN.{length, get_or}
 use lib.Dec.{eqb}
@@ -13,21 +12,7 @@ use Rattle.laws.specs.Places.{and_true}
 use Rattle.rule.specs.Rows.{processes_of}
 use Rattle.memory.specs.Memory.{Memory, Table, Rows, all_of, whole}
 use Rattle.memory.specs.Promise.{sized_rows, sized_for, sized}
-use Rattle.memory.specs.Laws.{all_of_at, at_all_of}
-
-module _ (n : ℕ) (f : ℕ → Bool) where
-  pub one_fails : (p : ℕ) → p < n → f p ≡ false → false ≡ all_of 0 n f
-  one_fails p h e = go (all_of 0 n f) refl
-    where
-      go : (b : Bool) → all_of 0 n f ≡ b → false ≡ b
-      go true a = sym e ∙ (rw zero-add at (all_of_at 0 n f a p h))
-      go false a = refl
-
-  pub all_pass : ((p : ℕ) → p < n → f p ≡ true) → true ≡ all_of 0 n f
-  all_pass h = sym (at_all_of 0 n f (λ p k. rw (zero-add p) (h p k)))
-
-  pub one_more : (p : ℕ) → ((j : ℕ) → j < p → f j ≡ true) → f p ≡ true → (j : ℕ) → j < p + 1 → f j ≡ true
-  one_more p h e j k = elim (ℕ_discrete j p) [ yes i ↦ rw i e | no i ↦ h j (omega arith) ]
+use Rattle.memory.specs.Laws.{at_all_of, all_of_at}
 
 pub record SizesAt (m : Memory) (p : ℕ) : Type 0 where
   pub inputs : length (get_or m.inputs p []) ≡ 64
@@ -73,3 +58,23 @@ own_long n inputs outputs transit own s =
     let b = and_true (eqb (length outputs) 8) _ a.1 in
     let c = and_true (eqb (length transit) 128) _ b.1 in
     eqb-true _ _ (and_true (eqb (length own) 9) _ c.1).0
+
+-- the type of each list's elements says how many rows they have: so the lengths of the lists are all that is left to test
+module _ (n : ℕ) (inputs outputs : Table) (transit : Rows) (own : Table) (few : n ≤ 8) (inputs_at : (p : ℕ) → p < length inputs → length (get_or inputs p []) ≡ 64)
+    (outputs_at : (p : ℕ) → p < length outputs → length (get_or outputs p []) ≡ 64) (own_at : (p : ℕ) → p < length own → length (get_or own p []) ≡ 33) where
+  rows_sized : length inputs ≡ 8 → length outputs ≡ 8 → length own ≡ 9 → (p : ℕ) → p < n → sized_rows (get_or inputs p []) (get_or outputs p []) (get_or own p []) ≡ true
+  rows_sized i o w p h = rw (inputs_at p (omega arith), outputs_at p (omega arith), own_at p (omega arith))
+
+  pub sized_is : sized_for n inputs outputs transit own ≡ eqb (length inputs) 8 && (eqb (length outputs) 8 && (eqb (length transit) 128 && eqb (length own) 9))
+  unfolding sized_for
+  sized_is = go (eqb (length inputs) 8) refl (eqb (length outputs) 8) refl (eqb (length transit) 128) (eqb (length own) 9) refl
+    where
+      go : (a : Bool) → eqb (length inputs) 8 ≡ a → (b : Bool) → eqb (length outputs) 8 ≡ b → (c d : Bool) → eqb (length own) 9 ≡ d
+          → a && (b && (c && (d && (eqb (length (get_or own 8 [])) 33 && all_of 0 n (λ p. sized_rows (get_or inputs p []) (get_or outputs p []) (get_or own p [])))))) ≡ a && (b && (c && d))
+      go true i true o true true w =
+          let l : length own ≡ 9 = eqb-true _ _ w in
+          rw (own_at 8 (omega arith)) (at_all_of 0 n _ (λ p h. rw zero-add (rows_sized (eqb-true _ _ i) (eqb-true _ _ o) l p h)))
+      go true i true o true false w = refl
+      go true i true o false d w = refl
+      go true i false o c d w = refl
+      go false i b o c d w = refl

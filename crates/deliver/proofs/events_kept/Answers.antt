@@ -6,7 +6,6 @@ use Rattle.definition.specs.declared.Saved.{Saved}
 use Rattle.definition.specs.State.{before}
 use Rattle.history.specs.Rows.{saved_at}
 use Rattle.history.specs.Laws.{saved_at_length, all_before}
-use native.Mathlib.Omega.{arith}
 use Rattle.deliver.proofs.events_kept.Goals as goal
 
 pub returns-then-last-time : goal.returns-then-last-time
@@ -14,10 +13,5 @@ returns-then-last-time c =
     let l = saved_at c.args.own.now c.args.events in
     sym (ap length (all_before c.args.time l c.requires.in_order _ (rw c.last-last.ensures at c.if-last-time.true)) ∙ saved_at_length c.args.own.now c.args.events c.requires.events_bound.1)
 
-pub cut_back-left-requires : goal.cut_back-left-requires
-cut_back-left-requires c =
-    (omega (arith, c.load.ensures.count, c.requires.events_bound), rw c.load.ensures.same c.requires.in_order)
-
 pub returns : goal.returns
-returns c =
-    c.cut_back-left.ensures.count ∙ ap (λ (l : List Saved). length (before c.args.time l)) c.load.ensures.same
+returns c = c.cut_back-left.ensures.count ∙ ap (λ (l : List Saved). length (before c.args.time l)) c.load.ensures.same

@@ -1,13 +1,30 @@
 -- By whether the row is read, and by what is found.
 use Rattle.std.proofs.Common.{sym, ◌∙◌}
-use Rattle.event.proofs.Sending.{read_answered, read_unanswered, read_passed}
+use Rattle.event.proofs.Sending.{read_answered, sends_answered, read_unanswered, sends_unanswered, read_passed, sends_passed}
 use Rattle.event.proofs.read.Goals as goal
 
 pub returns-then-not-is_read : goal.returns-then-not-is_read
-returns-then-not-is_read c = let a = c.args in read_passed a.rules.now a.time a.e a.w (sym c.is_read.ensures ∙ c.if-not-is_read.true)
+returns-then-not-is_read c =
+    let a = c.args in
+    let i = sym c.is_read.ensures ∙ c.if-not-is_read.true in
+    record { row_read = read_passed a.rules.now a.time a.row a.w i; row_sends = sends_passed a.rules.now a.time a.row a.w i }
 
-pub returns-in-Rule : goal.returns-in-Rule
-returns-in-Rule c = let a = c.args in read_answered a.rules.now a.time a.e a.w (sym c.is_read.ensures ∙ c.if-not-is_read.false) c.in-Rule.rule c.answered.result (rw c.in-Rule.is at c.find_among-found.ensures) c.answered.ensures
+pub returns-in-Some : goal.returns-in-Some
+returns-in-Some c =
+    let a = c.args in
+    let i = sym c.is_read.ensures ∙ c.if-not-is_read.false in
+    let r = c.answered in
+    record {
+      row_read = read_answered a.rules.now a.time a.row a.w i c.in-Some.rule r.result c.in-Some.ensures r.ensures;
+      row_sends = sends_answered a.rules.now a.time a.row a.w i c.in-Some.rule r.result c.in-Some.ensures r.ensures;
+    }
 
-pub returns-in-Nothing : goal.returns-in-Nothing
-returns-in-Nothing c = let a = c.args in read_unanswered a.rules.now a.time a.e a.w (sym c.is_read.ensures ∙ c.if-not-is_read.false) c.unanswered.result (rw c.in-Nothing.is at c.find_among-found.ensures) c.unanswered.ensures
+pub returns-in-None : goal.returns-in-None
+returns-in-None c =
+    let a = c.args in
+    let i = sym c.is_read.ensures ∙ c.if-not-is_read.false in
+    let r = c.unanswered in
+    record {
+      row_read = read_unanswered a.rules.now a.time a.row a.w i c.in-None.ensures r.result r.ensures;
+      row_sends = sends_unanswered a.rules.now a.time a.row a.w i c.in-None.ensures r.result;
+    }

@@ -1,9 +1,26 @@
--- The messages are sent, then the event and the counts are put down: together the process has worked its event.
-use Rattle.execute.proofs.Carrying.{performs, carries}
+-- What the event does by the rows that it may read is what it does by the queue.
+use Rattle.std.proofs.Common.{arith, rules, length-take}
+use Rattle.memory.specs.Memory.{number}
+use Rattle.execute.proofs.Reading.{readable, event_is}
 use Rattle.execute.proofs.carry_out.Goals as goal
 
-pub perform-requires : goal.perform-requires
-perform-requires c = let a = c.args in let all = performs a.rules.now a.own.now a.q.now a.output.now a.transit.now a.mails a.process c.requires.sound a.due c.requires.going c.size-entries.result c.size-outputs.result c.size-entries.ensures c.size-outputs.ensures c.requires.output_len.0 c.requires.output_len.1 in record { readable = all.0; room_for = all.1 }
+pub perform-requires-clause-readable : goal.perform-requires-clause-readable
+perform-requires-clause-readable c =
+    let r = c.requires.sound in
+    let g = c.requires.going in
+    rw g.event (readable g.from (omega (arith, r.inputs, length-take (number c.args.own.now 0) c.args.q.now)) (omega (arith, g.usable)) r.order)
+
+pub perform-requires-clause-room : goal.perform-requires-clause-room
+perform-requires-clause-room c = let g = c.requires.going in rw (g.event, g.before, event_is g.from c.args.rules.now c.args.process _) (search rules)
+
+pub with_counts-requires : goal.with_counts-requires
+with_counts-requires c =
+    let g = c.requires.going in
+    let joined = rw (g.event, g.before, event_is g.from c.args.rules.now c.args.process _) at c.perform.ensures.joined in
+    (omega (arith, c.requires.sound.inputs, length-take (number c.args.own.now 0) c.args.q.now), omega (arith, joined.sends, g.sent, g.outputs), omega arith)
 
 pub returns : goal.returns
-returns c = let a = c.args in carries a.rules.now a.own.now a.q.now a.output.now a.transit.now a.mails a.process c.requires.sound a.due c.requires.going c.size-entries.result c.size-outputs.result c.size-events.result c.size-sent.result c.with_counts.result c.size-entries.ensures c.size-outputs.ensures c.size-events.ensures c.size-sent.ensures c.with_counts.ensures c.store_last.new.own _ _ c.store_last.auto.own c.store_last.ensures.same c.perform.ensures
+returns c =
+    let g = c.requires.going in
+    let joined = rw (g.event, g.before, event_is g.from c.args.rules.now c.args.process _) at c.perform.ensures.joined in
+    search rules

@@ -1,38 +1,16 @@
-use Prim.Native.Nat.{min}
-use mathlib.Core.Path.{◌≡◌, ap₂, ◌∙◌}
-use native.Mathlib.Nat.{sub-zero}
-use Rattle.advance.specs.Bound.{unread_at, least_none, least_more}
-use borrow.Author.Rules.{rules}
-use native.Mathlib.Omega.{arith}
+-- The least of the unread times of the processes, from 0 on.
+use Rattle.std.proofs.Common.{rules, refl, sym, ap, ◌∙◌, arith}
+use Rattle.std.specs.Option.{unwrap_or}
+use Rattle.std.proofs.lemmas.Iterator.{YieldsList-from_range, YieldsList-from_map}
+use Rattle.std.proofs.lemmas.Iterator.Adapters.{option_map_id}
+use Rattle.std.proofs.lemmas.Iterator.Consumers.{YieldsList-at, min_from_yields_List}
+use Rattle.definition.specs.Message.{never}
+use Rattle.advance.specs.Bound.{unread_at, least_found}
 use Rattle.advance.proofs.bound.least_unread.Goals as goal
-
-pub loop-i-init : goal.loop-i-init
-loop-i-init c = (search rules, least_none (unread_at c.args.own.now c.args.inputs.now) c.args.processes)
-
-pub offset_bounds-own-i : goal.offset_bounds-own-i
-offset_bounds-own-i c = omega (arith, c.requires.histories.some)
-
-pub bounds-own-i : goal.bounds-own-i
-bounds-own-i c = omega (arith, c.requires.histories.some, c.requires.histories.long)
-
-pub offset_bounds-inputs-i : goal.offset_bounds-inputs-i
-offset_bounds-inputs-i c = omega (arith, c.requires.histories.some)
-
-pub bounds-inputs-i : goal.bounds-inputs-i
-bounds-inputs-i c = omega (arith, c.requires.histories.some, c.requires.inputs.long)
-
-pub unread-requires : goal.unread-requires
-unread-requires c = record { own_rows = c.requires.histories.at _ (omega arith); input_rows = c.requires.inputs.at _ (omega arith) }
-
-pub loop-i-preserved : goal.loop-i-preserved
-loop-i-preserved c =
-    let o = c.loop-i in (
-      omega arith,
-      c.lesser-least.ensures ∙ ap₂ min c.unread.ensures o.invariant.1 ∙ least_more (unread_at c.args.own.now c.args.inputs.now)
-          o.i c.args.processes c.loop-i-test.true o.invariant.0,
-    )
 
 pub returns : goal.returns
 returns c =
-    let o = c.loop-i in
-    let z : o.i ≡ 0 = omega arith in rw (z, sub-zero) at o.invariant.1
+    let a = c.args in
+    let least = min_from_yields_List _ c.min.result c.min.ensures.ran
+    (YieldsList-from_map _ (unread_at a.own.now a.inputs.now) (YieldsList-at c.map.ensures.source (YieldsList-from_range 0 a.processes a.processes refl (omega arith))) c.map.ensures.closure (λ x r q k. search rules)) in
+    c.unwrap_or.ensures ∙ ap (λ o. unwrap_or o never) (sym (option_map_id c.min.result) ∙ least) ∙ least_found a.own.now a.inputs.now a.processes
