@@ -4,7 +4,7 @@
 -- `one_call`, `one_run` and `one_model` say so.
 use Rattle.std.specs.Prelude.{◌≡◌, cond, List, [], ◌∷◌, ℕ, length, get_or}
 use Rattle.std.proofs.Common.{sym, ◌∙◌}
-use Rattle.definition.specs.declared.Answer.{Answer}
+use Rattle.definition.specs.Answer.{Answer}
 use Rattle.definition.specs.declared.Call.{Call}
 use Rattle.definition.specs.declared.Event.{Event}
 use Rattle.definition.specs.declared.Stand.{Stand}
@@ -16,12 +16,11 @@ use Rattle.rule.specs.Rows.{model_of}
 use Rattle.memory.specs.Memory.{Memory, state_of, Table, Rows}
 use Rattle.memory.specs.Promise.{is_refusal, due, Kept, one_answer, due_start, Begun, one_start as one-begun}
 use Rattle.model.specs.Stored.{model_for, answered, Promise}
-use Rattle.run.specs.declared.Ran.{Ran}
-use Rattle.run.specs.declared.Ran.TheVariants.{Done as RanDone, Refused as RanRefused}
+use Rattle.run.specs.Promise.{Ran}
+use Rattle.run.specs.Promise.{Done as RanDone, Refused as RanRefused}
 use Rattle.run.specs.Made.{Made}
 use Rattle.run.specs.Promise.{calls_due, Runs, one_answer as one-rehearsed}
-use Rattle.host.specs.declared.Stepped.{Stepped}
-use Rattle.host.specs.declared.Stepped.TheVariants.{Done, Refused}
+use Rattle.host.specs.Steps.{Stepped, Done, Refused}
 
 -- ---- the calls
 

@@ -5,12 +5,10 @@ use Prim.Native.Nat.{ℕ, zero, suc, ◌+◌, ◌-◌, ◌*◌, ◌%◌, ◌<◌
 use Rattle.std.proofs.Common.{arith}
 use Rattle.std.proofs.Math.Dec.{leb}
 use Rattle.definition.specs.declared.Call.{Call}
-use Rattle.definition.specs.declared.Answer.TheVariants.{Started}
+use Rattle.definition.specs.Answer.{Started}
 use Rattle.definition.specs.declared.Effect.TheVariants.{Set, Add}
 use Rattle.definition.specs.declared.Value.TheVariants.{Fixed}
-use Rattle.definition.specs.declared.Number.{Number}
-use Rattle.definition.specs.declared.Number.TheVariants.{Read, Fault as NumberFault}
-use Rattle.definition.specs.House.{largest, last_groups, more_groups, ends, read_groups, number_at}
+use Rattle.definition.specs.House.{Number, Read, Fault as NumberFault, largest, last_groups, more_groups, ends, read_groups, number_at}
 use Rattle.definition.specs.Model.{Model, ok_model}
 use Rattle.definition.specs.ModelBytes.{Parsed, Got, Fault, and_then, in_order_at, mapped, ranged, field, effect_by, effect_at, value_by, value_at, send_at, sends_at, rule_at, rules_at, setup_at, setups_at, whole, model_in}
 use Rattle.definition.specs.State.{State}
@@ -21,7 +19,7 @@ use Rattle.memory.specs.Memory.{Memory, Table, Rows, state_of, shaped}
 use Rattle.memory.specs.Promise.{is_refusal, due, sized, due_start}
 use Rattle.model.specs.Stored.{has_room, model_for}
 use Rattle.record.specs.Reading.{entry_at}
-use Rattle.run.specs.declared.Ran.TheVariants.{Done as RanDone, Refused as RanRefused}
+use Rattle.run.specs.Promise.{Done as RanDone, Refused as RanRefused}
 use Rattle.knotmeadow.specs.Told.{ran_due, ran_number, number_in}
 
 -- ---- the calls

@@ -11,11 +11,9 @@ use Rattle.definition.specs.ModelBytes.{Got, Fault}
 use Rattle.definition.specs.Program.{call_text, fault_line, call_at}
 use Rattle.definition.specs.Record.{onto}
 use Rattle.memory.specs.Memory.{Memory, state_of, lawful}
-use Rattle.rehearsal.specs.declared.Progress.{Progress}
-use Rattle.rehearsal.specs.declared.Progress.TheVariants.{Printed, Refused}
 use Rattle.rehearsal.specs.Turns.{turn_at, turn_over, turn_on}
 use Rattle.lines.specs.Promise.{longest, Works}
-use Rattle.rehearsal.specs.Promise.{turn_refusal, turn_due, Prints, Says, is_refusal}
+use Rattle.rehearsal.specs.Promise.{Progress, Printed, Refused, turn_refusal, turn_due, Prints, Says, is_refusal}
 
 module _ (m : Memory) (bs : List ℕ) (at : ℕ) (before : List ℕ) where
   abbrev Turned : Progress → Memory → List ℕ → Type 0

@@ -19,8 +19,6 @@ use Rattle.definition.specs.Run.{run_events}
 use Rattle.demands.specs.Demands.{demand_three}
 use Rattle.model.specs.Accepted.{accepted}
 use Rattle.text.specs.declared.Part.TheVariants.{File, Model as ModelPart, Call as CallPart}
-use Rattle.runfile.specs.declared.HeadRead.{HeadRead}
-use Rattle.runfile.specs.declared.HeadRead.TheVariants.{Model as Stands, Refused as NoModel}
 use Rattle.runfile.specs.Reading.{head_of, head_lines, printed_head}
 use Rattle.rehearsal.specs.EventLines.{event_lines_in, fault_events, model_events, call_events}
 use Rattle.rehearsal.specs.Promise.{model_by}
@@ -73,12 +71,12 @@ module _ (bs : List ℕ) where
   unfolding model_from
   printed_none n place e = ap event_lines_in (printed_head bs) ∙ go (head_of bs) e
     where
-      go : (h : HeadRead) → model_by bs h ≡ Fault n place → event_lines_in (head_lines bs h) ≡ []
-      go (NoModel f) e = fault_events File f.number f.at
-      go (Stands at size) e = rw e (fault_events ModelPart n (at + place))
+      go : (h : Parsed ℕ) → model_by bs h ≡ Fault n place → event_lines_in (head_lines bs h) ≡ []
+      go (Fault k at) e = fault_events File k at
+      go (Got at size) e = rw e (fault_events ModelPart n (at + place))
 
   -- else they are those of the rehearsal
-  module _ {at size : ℕ} (h : head_of bs ≡ Stands at size) {M : Model} {next : ℕ} (e : model_in (take size (drop at bs)) ≡ Got M next) where
+  module _ {at size : ℕ} (h : head_of bs ≡ Got at size) {M : Model} {next : ℕ} (e : model_in (take size (drop at bs)) ≡ Got M next) where
     pub printed_events : event_lines_in (printed bs) ≡ event_lines (rehearsal M (calls_read bs (at + size))).events
     unfolding model_from rehearsal event_lines
     printed_events = rw (printed_head bs, h, e) (model_events (length M) _ ∙ calls_events (length bs) (record { state = started M; accepted = []; events = []; bytes = [] }) (at + size))

@@ -8,14 +8,10 @@ use Rattle.definition.specs.Record.{onto}
 use Rattle.definition.specs.Model.{Model}
 use Rattle.definition.specs.ModelBytes.{Parsed, Got, Fault, model_in}
 use Rattle.definition.specs.State.{State}
-use Rattle.runfile.specs.declared.HeadRead.{HeadRead}
-use Rattle.runfile.specs.declared.HeadRead.TheVariants.{Model as Stands, Refused as NoModel}
 use Rattle.runfile.specs.Reading.{head_of, head_within}
 use Rattle.memory.specs.Memory.{Memory, state_of}
-use Rattle.rehearsal.specs.declared.Progress.{Progress}
-use Rattle.rehearsal.specs.declared.Progress.TheVariants.{Printed, Refused}
 use Rattle.rehearsal.specs.Turns.{Turn, head_turn, model_turn, first_turn, turn_at, turn_later}
-use Rattle.rehearsal.specs.Promise.{due_by, first_refusal, first_due, turn_refusal, turn_due, Prints, Begins}
+use Rattle.rehearsal.specs.Promise.{Progress, Printed, Refused, due_by, first_refusal, first_due, turn_refusal, turn_due, Prints, Begins}
 
 -- how far the text is printed, and the place of the next call in an input of this length: its end after a refusal
 abbrev pub end_of : Progress → ℕ
@@ -61,9 +57,9 @@ first_next bs s = go (head_of bs) refl
     by at size h (Got M next) = h
     by at size h (Fault n place) = omega arith
 
-    go : (h : HeadRead) → head_of bs ≡ h → (head_turn bs s h).next ≤ length bs
-    go (Stands at size) e = by at size (head_within bs at size e).0 (model_in (take size (drop at bs)))
-    go (NoModel f) e = omega arith
+    go : (h : Parsed ℕ) → head_of bs ≡ h → (head_turn bs s h).next ≤ length bs
+    go (Got at size) e = by at size (head_within bs at size e).0 (model_in (take size (drop at bs)))
+    go (Fault n at) e = omega arith
 
 pub first_moves : {m : Memory} {bs : List ℕ} {a : Progress} {w : Memory} {before after : List ℕ} → Begins m bs a w before after → Moves a (length after) (length bs)
 unfolding first_due

@@ -1,23 +1,42 @@
 -- What a turn of the program promises, on every memory, every text and every input: what is due is a function of them, so there is one answer, one
 -- text and one state.
-use Rattle.std.specs.Prelude.{◌≡◌, Bool, true, false, cond, ◌&&◌, List, [], ℕ, zero, suc, ltb, length, take, drop}
-use Rattle.std.proofs.Common.{sym, ◌∙◌}
+use Rattle.std.specs.Prelude.{◌≡◌, Bool, true, false, cond, ◌&&◌, List, [], ℕ, zero, suc, ltb, length, take, drop, Result, Ok, Err}
+use Rattle.std.proofs.Common.{sym, ap, ap₂, ◌∙◌, arith}
 use Rattle.definition.specs.Model.{Model}
 use Rattle.definition.specs.ModelBytes.{Parsed, Got, Fault, model_in}
 use Rattle.definition.specs.State.{State}
 use Rattle.definition.specs.Record.{onto}
-use Rattle.runfile.specs.declared.HeadRead.{HeadRead}
-use Rattle.runfile.specs.declared.HeadRead.TheVariants.{Model as Stands, Refused as NoModel}
 use Rattle.runfile.specs.Reading.{head_of}
 use Rattle.model.specs.Stored.{has_room}
 use Rattle.memory.specs.Memory.{Memory, state_of, lawful}
 use Rattle.memory.specs.Promise.{sized_for}
 use Rattle.lines.specs.Promise.{longest}
-use Rattle.rehearsal.specs.declared.Progress.{Progress}
-use Rattle.rehearsal.specs.declared.Progress.TheVariants.{Printed, Refused}
+use Rattle.definition.specs.declared.refusal.Refusal.{Refusal}
+use Rattle.definition.specs.Answer.{refusal_number, one_refusal}
+use Rattle.rehearsal.specs.declared.Printed.{Printed as Said}
 use Rattle.rehearsal.specs.Turns.{Turn, first_turn, turn_at}
 
 -- ---- what is due
+
+-- how many bytes of text are printed, and the place of the next call; or the number of the refusal
+pub data Progress : Type 0 where
+  Printed : ℕ → ℕ → Progress
+  Refused : ℕ → Progress
+
+-- what a turn of the code answers
+abbrev pub progress : Result Said Refusal → Progress
+progress (Ok p) = Printed p.end p.next
+progress (Err r) = Refused (refusal_number r)
+
+-- an answer is settled by what it says
+pub one_progress : (r s : Result Said Refusal) → progress r ≡ progress s → r ≡ s
+one_progress (Ok p) (Ok q) e =
+    let end : p.end ≡ q.end = cc in
+    let next : p.next ≡ q.next = cc in
+    ap₂ (λ (end next : ℕ). Ok (record { end = end; next = next })) end next
+one_progress (Ok p) (Err s) e = let z : ◌≡◌ {A = ℕ} 0 1 = cc in absurd (omega arith)
+one_progress (Err r) (Ok q) e = let z : ◌≡◌ {A = ℕ} 0 1 = cc in absurd (omega arith)
+one_progress (Err r) (Err s) e = let same : refusal_number r ≡ refusal_number s = cc in ap Err (one_refusal r s same)
 
 pub record Due : Type 0 where
   pub answer : Progress
@@ -67,9 +86,9 @@ pub record Prints (m : Memory) (d : Due) (a : Progress) (w : Memory) (before aft
   pub lawful_again : lawful m ≡ true → lawful w ≡ true
 
 -- the model that stands in the input, or the fault of the file or of the model
-abbrev pub model_by : List ℕ → HeadRead → Parsed Model
-model_by bs (Stands at size) = model_in (take size (drop at bs))
-model_by bs (NoModel f) = Fault f.number f.at
+abbrev pub model_by : List ℕ → Parsed ℕ → Parsed Model
+model_by bs (Got at size) = model_in (take size (drop at bs))
+model_by bs (Fault n at) = Fault n at
 
 -- a model that was read has been started: the memory is lawful, whatever it was before; a fault leaves every lent word
 pub record Begins (m : Memory) (bs : List ℕ) (a : Progress) (w : Memory) (before after : List ℕ) : Type 0 where

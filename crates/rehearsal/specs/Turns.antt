@@ -16,8 +16,6 @@ use Rattle.definition.specs.State.{State}
 use Rattle.definition.specs.Calls.{started}
 use Rattle.definition.specs.BadState.{call}
 use Rattle.definition.specs.Program.{file_text, model_text, call_text, fault_line, model_line, call_lines, call_at, or_fault, calls_from, model_from, printed}
-use Rattle.runfile.specs.declared.HeadRead.{HeadRead}
-use Rattle.runfile.specs.declared.HeadRead.TheVariants.{Model as Stands, Refused}
 use Rattle.runfile.specs.Reading.{head_of, head_lines, printed_head}
 use Rattle.runfile.specs.Places.{call_placed}
 
@@ -37,9 +35,9 @@ abbrev pub model_turn : List ℕ → State → ℕ → ℕ → Parsed Model → 
 model_turn bs s at size (Got M next) = record { lines = model_line (length M); next = at + size; after = started M }
 model_turn bs s at size (Fault n place) = ended bs s (fault_line model_text n (at + place))
 
-abbrev pub head_turn : List ℕ → State → HeadRead → Turn
-head_turn bs s (Stands at size) = model_turn bs s at size (model_in (take size (drop at bs)))
-head_turn bs s (Refused f) = ended bs s (fault_line file_text f.number f.at)
+abbrev pub head_turn : List ℕ → State → Parsed ℕ → Turn
+head_turn bs s (Got at size) = model_turn bs s at size (model_in (take size (drop at bs)))
+head_turn bs s (Fault n at) = ended bs s (fault_line file_text n at)
 
 unfoldable pub first_turn : List ℕ → State → Turn
 unfolding head_of model_in started
@@ -121,6 +119,6 @@ module _ (bs : List ℕ) where
       by at size (Got M next) = ap (λ (l : List ℕ). model_line (length M) ++ l) (turns (length bs) (started M) (at + size))
       by at size (Fault n place) = last (fault_line model_text n (at + place))
 
-      go : (h : HeadRead) → (head_turn bs s h).lines ++ turns_from (length bs) bs (head_turn bs s h).after (head_turn bs s h).next ≡ head_lines bs h
-      go (Stands at size) = by at size (model_in (take size (drop at bs)))
-      go (Refused f) = last (fault_line file_text f.number f.at)
+      go : (h : Parsed ℕ) → (head_turn bs s h).lines ++ turns_from (length bs) bs (head_turn bs s h).after (head_turn bs s h).next ≡ head_lines bs h
+      go (Got at size) = by at size (model_in (take size (drop at bs)))
+      go (Fault n at) = last (fault_line file_text n at)

@@ -13,14 +13,11 @@ use Rattle.definition.specs.ModelBytes.{Parsed, Got, Fault, model_in}
 use Rattle.definition.specs.Program.{printed}
 use Rattle.definition.specs.Record.{onto}
 use Rattle.definition.specs.Rehearsal.{rehearsal}
-use Rattle.runfile.specs.declared.HeadRead.{HeadRead}
-use Rattle.runfile.specs.declared.HeadRead.TheVariants.{Model as Stands, Refused as NoModel}
 use Rattle.runfile.specs.Reading.{head_of, head_within}
 use Rattle.memory.specs.Memory.{Memory, state_of, lawful}
 use Rattle.lines.specs.Promise.{longest}
-use Rattle.rehearsal.specs.declared.Progress.{Progress}
 use Rattle.rehearsal.specs.Turns.{Turn, head_turn, model_turn, first_turn, turn_at, turns_from, turn_later, turns_over, turns_on, program}
-use Rattle.rehearsal.specs.Promise.{due_by, first_refusal, first_due, turn_refusal, turn_due, is_refusal, model_by, Prints, Begins}
+use Rattle.rehearsal.specs.Promise.{Progress, due_by, first_refusal, first_due, turn_refusal, turn_due, is_refusal, model_by, Prints, Begins}
 use Rattle.rehearsal.specs.Moving.{end_of, next_of}
 use Rattle.rehearsal.specs.EventLines.{event_lines_in}
 use Rattle.rehearsal.specs.Committed.{calls_read, run_lines, printed_record}
@@ -72,9 +69,9 @@ module _ {m w : Memory} {bs : List ℕ} {a : Progress} {before after : List ℕ}
   unfolding first_turn
   ready = go (head_of bs) refl
     where
-      go : (h : HeadRead) → head_of bs ≡ h → Ready bs w (head_turn bs (state_of m) h).next
-      go (NoModel f) e k = absurd (omega arith)
-      go (Stands at size) e k = by (model_in (take size (drop at bs))) refl k
+      go : (h : Parsed ℕ) → head_of bs ≡ h → Ready bs w (head_turn bs (state_of m) h).next
+      go (Fault n at) e k = absurd (omega arith)
+      go (Got at size) e k = by (model_in (take size (drop at bs))) refl k
         where
           by : (p : Parsed Model) → model_in (take size (drop at bs)) ≡ p → Ready bs w (model_turn bs (state_of m) at size p).next
           by (Got M next) d k = (b.lawful_first r M next (ap (model_by bs) e ∙ d), (head_within bs at size e).1)
@@ -88,7 +85,7 @@ module _ {m w : Memory} {bs : List ℕ} {a : Progress} {before after : List ℕ}
       ap₂ ◌++◌ t.lines (steps bs (length bs) (omega arith) (λ k. ready (omega (arith, t.next))) s ∙ rw (t.state, t.next)) ∙ program bs (state_of m)
 
   -- the lines of events in it: the record of demand 3
-  pub all_committed : {out : List ℕ} → Steps bs w (next_of a (length bs)) out → {at size : ℕ} → head_of bs ≡ Stands at size
+  pub all_committed : {out : List ℕ} → Steps bs w (next_of a (length bs)) out → {at size : ℕ} → head_of bs ≡ Got at size
       → {M : Model} {next : ℕ} → model_in (take size (drop at bs)) ≡ Got M next
       → event_lines_in (take (end_of a) after ++ out) ≡ run_lines M (rehearsal M (calls_read bs (at + size)))
   all_committed s h e = ap event_lines_in (all_printed s) ∙ printed_record bs h e

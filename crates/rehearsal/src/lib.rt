@@ -4,28 +4,29 @@
 #![tactic(auto)]
 
 ghost use Rattle.std.specs.Prelude.{◌≡◌, true, ◌&&◌, ◌≤◌, length};
+ghost use Rattle.definition.specs.ModelBytes.{Got};
 ghost use Rattle.definition.specs.Program.{fault_line};
-ghost use Rattle.runfile.specs.declared.HeadRead.TheVariants.{Model as Stands};
 ghost use Rattle.runfile.specs.Reading.{head_of};
 ghost use Rattle.text.specs.Part.{part_text};
 ghost use Rattle.model.specs.Stored.{has_room};
-ghost use Rattle.memory.specs.Memory.{held};
+ghost use Rattle.memory.specs.Memory.{held, lawful};
+ghost use Rattle.memory.specs.Lent.{said, SameLists};
 ghost use Rattle.memory.specs.Promise.{sized_for};
 ghost use Rattle.lines.specs.Promise.{longest};
-ghost use Rattle.rehearsal.specs.Promise.{Says, Begins, Prints, turn_due};
+ghost use Rattle.definition.specs.Answer.{refusal_number};
+ghost use Rattle.rehearsal.specs.Promise.{progress, Says, Begins, Prints, turn_due};
 
 use definition::lent::{Own, Queue, Row, Rules};
 use definition::numbers::INPUT_LENGTH;
-use definition::refusal::{BAD_STATE, SHORT_BUFFER, TOO_LONG};
-use model::ModelRead;
-use runfile::{CallRead, HeadRead};
+use definition::refusal::{Fault, Refusal};
+use memory::Lent;
 use text::Part;
 
-// A turn: how many bytes of text it printed, and the place of the next call, which is the end of the input when nothing is left; or the refusal.
+// How many bytes of text a turn printed, and the place of the next call, which is the end of the input when nothing is left.
 #[derive(Clone, Copy)]
-pub enum Progress {
-    Printed { end: usize, next: usize },
-    Refused(u32),
+pub struct Printed {
+    pub end: usize,
+    pub next: usize,
 }
 
 // A text of so many bytes has room for the lines of any call.
@@ -41,22 +42,17 @@ fn has_room(
 ) -> bool
     ensures { result ≡ (has_room model.now && sized_for 8 inputs.now outputs.now transit.now own.now) }
 {
-    if !model::has_room(model) {
-        return false;
-    }
-    start::is_sized(inputs, outputs, transit, own, 8)
+    model::has_room(model) && start::is_sized(inputs, outputs, transit, own)
 }
 
 // A fault's line, which is the last: nothing is left of an input of this length.
-fn ended(part: Part, number: u32, at: usize, input: usize, text: &mut [u8]) -> Progress
-    requires { (at ≤ 65536) × (longest ≤ length text.old) }
-    ensures { Says (fault_line (part_text part) number at) input result text.old text.new }
+fn ended(part: Part, fault: Fault, input: usize, text: &mut [u8]) -> Printed
+    requires { (fault.at ≤ 65536) × (longest ≤ length text.old) }
+    ensures { Says (fault_line (part_text part) (refusal_number fault.refusal) fault.at) input (progress (Ok result)) text.old text.new }
 {
-    let line = text::fault_line(part, number, memory::word(at), text, 0);
-    Progress::Printed {
-        end: lines::place_after(line),
-        next: input,
-    }
+    let number = u32::from(fault.refusal);
+    let end = text::fault_line(part, number, fault.at as u32, text, 0).unwrap();
+    Printed { end, next: input }
 }
 
 // The model that stands at a place is read and started.
@@ -70,30 +66,28 @@ fn start(
     transit: &[Row],
     own: &mut [Own],
     text: &mut [u8],
-) -> Progress
-    requires bytes_value { head_of bytes.now ≡ Stands at size }
+) -> Result<Printed, Refusal>
+    requires bytes_value { head_of bytes.now ≡ Got at size }
     requires own_value { (has_room model.old && sized_for 8 inputs.now outputs.now transit.now own.old) ≡ true }
     requires longest_in_bounds { longest ≤ length text.old }
-    ensures { Begins (held model.old inputs.now outputs.now transit.now own.old) bytes.now result (held model.new inputs.now outputs.now transit.now own.new) text.old text.new }
+    ensures { Begins (held model.old inputs.now outputs.now transit.now own.old) bytes.now (progress result) (held model.new inputs.now outputs.now transit.now own.new) text.old text.new }
 {
-    let end = at + size;
-    let read = model::read(&bytes[at..end], model);
-    match read {
-        ModelRead::Refused(fault) => {
-            ended(Part::Model, fault.number, at + fault.at, bytes.len(), text)
+    let next = at + size;
+    match model::read(&bytes[at..next], model) {
+        Err(fault) => {
+            let at = at + fault.at;
+            Ok(ended(Part::Model, Fault { at, ..fault }, bytes.len(), text))
         }
-        ModelRead::Accepted { processes } => {
-            start::start(model, inputs, outputs, transit, own);
-            let line = text::model_line(processes, text, 0);
-            Progress::Printed {
-                end: lines::place_after(line),
-                next: end,
-            }
+        Ok(processes) => {
+            start::start(model, inputs, outputs, transit, own).unwrap();
+            let end = text::model_line(processes, text, 0).unwrap();
+            Ok(Printed { end, next })
         }
     }
 }
 
-// The first turn: the model is read, and a new state begins with it.
+// The first turn: the model is read, and a new state begins with it. The lists come one by one: the model is written, and most others are only read.
+#[tactic(auto, using(crate::proofs::Beginning::no_room, crate::proofs::Beginning::too_short, crate::proofs::Beginning::file_fault_place))]
 pub fn begin(
     bytes: &[u8],
     model: &mut [Rules],
@@ -102,55 +96,51 @@ pub fn begin(
     transit: &[Row],
     own: &mut [Own],
     text: &mut [u8],
-) -> Progress
-    ensures { Begins (held model.old inputs.now outputs.now transit.now own.old) bytes.now result (held model.new inputs.now outputs.now transit.now own.new) text.old text.new }
+) -> Result<Printed, Refusal>
+    ensures { Begins (held model.old inputs.now outputs.now transit.now own.old) bytes.now (progress result) (held model.new inputs.now outputs.now transit.now own.new) text.old text.new }
 {
     if !has_room(model, inputs, outputs, transit, own) {
-        return Progress::Refused(BAD_STATE);
+        return Err(Refusal::BadState);
     }
     if text.len() < LONGEST {
-        return Progress::Refused(SHORT_BUFFER);
+        return Err(Refusal::ShortBuffer);
     }
-    let head = runfile::head(bytes);
-    match head {
-        HeadRead::Refused(fault) => { ended(Part::File, fault.number, fault.at, bytes.len(), text) }
-        HeadRead::Model { at, size } => {
-            start(bytes, at, size, model, inputs, outputs, transit, own, text)
-        }
+    match runfile::head(bytes) {
+        Err(fault) => Ok(ended(Part::File, fault, bytes.len(), text)),
+        Ok((at, size)) => start(bytes, at, size, model, inputs, outputs, transit, own, text),
     }
 }
 
-// The turn of the call at a place; at the end of the input it does nothing.
-pub fn step(
-    bytes: &[u8],
-    at: usize,
-    model: &[Rules],
-    inputs: &mut [Queue],
-    outputs: &mut [Queue],
-    transit: &mut [Row],
-    own: &mut [Own],
-    text: &mut [u8],
-) -> Progress
-    ensures { Prints (held model.now inputs.old outputs.old transit.old own.old) (turn_due (held model.now inputs.old outputs.old transit.old own.old) (length text.old) bytes.now at) result (held model.now inputs.new outputs.new transit.new own.new) text.old text.new }
+// Whether a call may work on this memory.
+fn lawful(m: &Lent) -> bool
+    ensures { result ≡ lawful (said m.now) }
 {
-    if !badstate::lawful(model, inputs, outputs, transit, own) {
-        return Progress::Refused(BAD_STATE);
+    badstate::lawful(m.model, m.inputs, m.outputs, m.transit, m.own)
+}
+
+// The turn of the call at a place; at the end of the input it does nothing.
+#[tactic(auto, using(crate::proofs::Stepping::unlawful, crate::proofs::Stepping::too_short, crate::proofs::Stepping::too_long, crate::proofs::Stepping::nothing_left, calls::specs::Lent::lent_whole, runfile::specs::Places::call_fault_placed))]
+pub fn step(bytes: &[u8], at: usize, m: &mut Lent, text: &mut [u8]) -> Result<Printed, Refusal>
+    ensures prints { Prints (said m.old) (turn_due (said m.old) (length text.old) bytes.now at) (progress result) (said m.new) text.old text.new }
+    ensures same_lists { SameLists m.new m.old }
+{
+    if !lawful(m) {
+        return Err(Refusal::BadState);
     }
     if text.len() < LONGEST {
-        return Progress::Refused(SHORT_BUFFER);
+        return Err(Refusal::ShortBuffer);
     }
     if INPUT_LENGTH < bytes.len() {
-        return Progress::Refused(TOO_LONG);
+        return Err(Refusal::TooLong);
     }
     if bytes.len() <= at {
-        return Progress::Printed { end: 0, next: at };
+        return Ok(Printed { end: 0, next: at });
     }
-    let read = runfile::call_at(bytes, at);
-    match read {
-        CallRead::Refused(fault) => { ended(Part::Call, fault.number, fault.at, bytes.len(), text) }
-        CallRead::Got { call, next } => {
-            let end = lines::work(model, inputs, outputs, transit, own, call, text);
-            Progress::Printed { end, next }
+    match runfile::call_at(bytes, at) {
+        Err(fault) => Ok(ended(Part::Call, fault, bytes.len(), text)),
+        Ok((call, next)) => {
+            let end = lines::work(m, call, text);
+            Ok(Printed { end, next })
         }
     }
 }

@@ -15,8 +15,8 @@ use Rattle.definition.specs.Calls.{Result}
 use Rattle.definition.specs.BadState.{call}
 use Rattle.definition.specs.Rehearsal.{Rehearsal, after, calls, answers_of}
 use Rattle.memory.specs.Memory.{Memory, Rows, state_of, lawful}
-use Rattle.run.specs.declared.Ran.TheVariants.{Done}
-use Rattle.run.specs.declared.Turn.TheVariants.{Make, Stop}
+use Rattle.run.specs.Promise.{Done}
+use Rattle.std.specs.Prelude.{Some, None}
 use Rattle.run.specs.Made.{Made, made, turn_of, before, made_stop, made_call, before_more}
 use Rattle.run.specs.Rows.{row_of, rows_of, calls_more, rows_more, rows_length}
 use Rattle.run.specs.Promise.{Worked, Turned, from, Works}
@@ -72,7 +72,7 @@ module _ (bs : List ℕ) (m : Memory) (answers : Rows) (committed : List ℕ) wh
   module _ (w : Memory) (answers' : Rows) (committed' : List ℕ) (count at recorded : ℕ) (r : Running bs m answers committed w answers' committed' count at recorded)
       (same_rows : length answers' ≡ length answers) (same_bytes : length committed' ≡ length committed) where
     -- nothing more is made
-    pub running_stop : turn_of bs at (length answers' - count) (length committed' - recorded) ≡ Stop
+    pub running_stop : turn_of bs at (length answers' - count) (length committed' - recorded) ≡ None
         → Works bs (state_of m) (Done count at recorded) w answers answers' committed committed'
     running_stop e =
         let stop : made (length answers - count) (length committed - recorded) bs (state_of w) at ≡ record { calls = []; next = at } =
@@ -88,7 +88,7 @@ module _ (bs : List ℕ) (m : Memory) (answers : Rows) (committed : List ℕ) wh
         })
 
     -- one call more
-    module _ (c : Call) (next : ℕ) (e : turn_of bs at (length answers' - count) (length committed' - recorded) ≡ Make c next) where
+    module _ (c : Call) (next : ℕ) (e : turn_of bs at (length answers' - count) (length committed' - recorded) ≡ Some (c, next)) where
       z : Rehearsal
       z = calls (from (state_of m)) r.done
 

@@ -6,7 +6,7 @@ use Prim.Native.Nat.{ℕ, ◌+◌, ◌-◌, ◌≤◌}
 use native.Mathlib.Omega.{arith}
 use lib.ListN.{length, take, drop, set, length-append, length-take, length-drop, take-append-drop}
 use lib.Seq.{length-take-le, drop-append-le}
-use Rattle.definition.specs.declared.Answer.{Answer}
+use Rattle.definition.specs.Answer.{Answer}
 use Rattle.definition.specs.declared.Call.{Call}
 use Rattle.definition.specs.Record.{onto}
 use Rattle.definition.specs.Calls.{Result}

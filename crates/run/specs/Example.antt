@@ -11,8 +11,8 @@ use Rattle.demands.specs.Cases.{example, whole}
 use Rattle.rule.specs.Rows.{model_of}
 use Rattle.memory.specs.Memory.{Memory, Rows}
 use Rattle.memory.specs.Promise.{is_refusal, due_start}
-use Rattle.run.specs.declared.Ran.{Ran}
-use Rattle.run.specs.declared.Ran.TheVariants.{Done}
+use Rattle.run.specs.Promise.{Ran}
+use Rattle.run.specs.Promise.{Done}
 use Rattle.run.specs.Made.{made}
 use Rattle.run.specs.Rows.{rows_of}
 use Rattle.run.specs.Promise.{Rehearsed, Runs, calls_due}

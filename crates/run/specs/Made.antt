@@ -2,7 +2,7 @@
 -- the room that is left of the record is an advance's buffer. They are a function of the input, the state and the two lengths.
 use Rattle.std.proofs.Math.Path.{◌≡◌, refl}
 use Rattle.std.proofs.Common.{ap, append_assoc}
-use Rattle.std.specs.Prelude.{Bool, ◌||◌, List, [], ◌∷◌, ◌++◌, leb, ltb, length}
+use Rattle.std.specs.Prelude.{Bool, ◌||◌, List, [], ◌∷◌, ◌++◌, leb, ltb, length, Option, Some, None}
 use Rattle.std.proofs.Math.Bool.{true, false, cond}
 use Prim.Native.Nat.{ℕ, zero, suc, ◌-◌, ◌≤◌, ◌<◌}
 use native.Mathlib.Omega.{arith}
@@ -12,37 +12,35 @@ use Rattle.definition.specs.ModelBytes.{Parsed, Got, Fault}
 use Rattle.definition.specs.State.{State}
 use Rattle.definition.specs.BadState.{call}
 use Rattle.definition.specs.Program.{buffer_length, call_at}
-use Rattle.run.specs.declared.Turn.{Turn}
-use Rattle.run.specs.declared.Turn.TheVariants.{Make, Stop}
 
 -- ---- one turn
 
-abbrev pub turn_by : Parsed Call → Turn
-turn_by (Got c next) = Make c next
-turn_by (Fault n place) = Stop
+abbrev pub turn_by : Parsed Call → Option (Call × ℕ)
+turn_by (Got c next) = Some (c, next)
+turn_by (Fault n place) = None
 
 -- the call that is made at a place, with so many rows and so many bytes of the record left
-unfoldable pub turn_of : List ℕ → ℕ → ℕ → ℕ → Turn
+unfoldable pub turn_of : List ℕ → ℕ → ℕ → ℕ → Option (Call × ℕ)
 unfolding call_at
-turn_of bs at zero room = Stop
-turn_of bs at (suc rows) room = cond (ltb room buffer_length || leb (length bs) at) Stop (turn_by (call_at bs at))
+turn_of bs at zero room = None
+turn_of bs at (suc rows) room = cond (ltb room buffer_length || leb (length bs) at) None (turn_by (call_at bs at))
 
 module _ (bs : List ℕ) (at : ℕ) where
-  pub turn_none : (rows room : ℕ) → rows ≡ 0 → turn_of bs at rows room ≡ Stop
+  pub turn_none : (rows room : ℕ) → rows ≡ 0 → turn_of bs at rows room ≡ None
   unfolding turn_of
   turn_none rows room e = rw e
 
-  pub turn_short : (rows room : ℕ) → room < buffer_length → turn_of bs at rows room ≡ Stop
+  pub turn_short : (rows room : ℕ) → room < buffer_length → turn_of bs at rows room ≡ None
   unfolding turn_of
   turn_short zero room h = refl
   turn_short (suc rows) room h = rw (lt-ltb room buffer_length h)
 
-  pub turn_end : (rows room : ℕ) → length bs ≤ at → turn_of bs at rows room ≡ Stop
+  pub turn_end : (rows room : ℕ) → length bs ≤ at → turn_of bs at rows room ≡ None
   unfolding turn_of
   turn_end zero room h = refl
   turn_end (suc rows) room h = rw (le-leb (length bs) at h) (go (ltb room buffer_length))
     where
-      go : (b : Bool) → cond (b || true) Stop (turn_by (call_at bs at)) ≡ Stop
+      go : (b : Bool) → cond (b || true) None (turn_by (call_at bs at)) ≡ None
       go true = refl
       go false = refl
 
@@ -61,9 +59,9 @@ pub record Made : Type 0 where
 abbrev pub before : List Call → Made → Made
 before cs x = record { calls = cs ++ x.calls; next = x.next }
 
-abbrev pub made_by : ℕ → Turn → (Call → ℕ → Made) → Made
-made_by at (Make c next) f = before (c ∷ []) (f c next)
-made_by at Stop f = record { calls = []; next = at }
+abbrev pub made_by : ℕ → Option (Call × ℕ) → (Call → ℕ → Made) → Made
+made_by at (Some x) f = before (x.0 ∷ []) (f x.0 x.1)
+made_by at None f = record { calls = []; next = at }
 
 -- from a place on, with so many rows and so many bytes left, on a state; what a call writes is room no more
 unfoldable pub made : ℕ → ℕ → List ℕ → State → ℕ → Made
@@ -73,12 +71,12 @@ made (suc rows) room bs s at =
     made_by at (turn_of bs at (suc rows) room) (λ c next. made rows (room - length (call s c).bytes) bs (call s c).after next)
 
 module _ (bs : List ℕ) (s : State) (at : ℕ) where
-  pub made_stop : (rows room : ℕ) → turn_of bs at rows room ≡ Stop → made rows room bs s at ≡ record { calls = []; next = at }
+  pub made_stop : (rows room : ℕ) → turn_of bs at rows room ≡ None → made rows room bs s at ≡ record { calls = []; next = at }
   unfolding made
   made_stop zero room e = refl
   made_stop (suc rows) room e = rw e
 
-  pub made_call : (rows room : ℕ) (c : Call) (next : ℕ) → turn_of bs at rows room ≡ Make c next
+  pub made_call : (rows room : ℕ) (c : Call) (next : ℕ) → turn_of bs at rows room ≡ Some (c, next)
       → made rows room bs s at ≡ before (c ∷ []) (made (rows - 1) (room - length (call s c).bytes) bs (call s c).after next)
   unfolding made turn_of
   made_call zero room c next e = let z : ◌≡◌ {A = ℕ} 0 1 = cc in absurd (omega arith)

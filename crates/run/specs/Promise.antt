@@ -1,8 +1,8 @@
 -- What a run promises, on every input and every memory. What is due is a function of them: the calls that are made (Made.antt), and what the
 -- definition says of the rehearsal of the model with those calls. So there is one answer, one state, one list of rows and one record. And the
 -- demands of document 01 are stated of this very rehearsal.
-use Rattle.std.specs.Prelude.{◌≡◌, refl, Bool, true, false, List, [], ◌++◌, ℕ, ◌+◌, ◌≤◌, ltb, length, take, drop, set}
-use Rattle.std.proofs.Common.{sym, ap, ◌∙◌}
+use Rattle.std.specs.Prelude.{◌≡◌, refl, Bool, true, false, List, [], ◌++◌, ℕ, ◌+◌, ◌≤◌, ltb, length, take, drop, set, Result, Ok, Err}
+use Rattle.std.proofs.Common.{sym, ap, ◌∙◌, arith}
 use Rattle.definition.specs.declared.Call.{Call}
 use Rattle.definition.specs.Model.{Model}
 use Rattle.definition.specs.State.{State}
@@ -17,12 +17,47 @@ use Rattle.demands.specs.Demands.{DemandTwo, DemandThree}
 use Rattle.rule.specs.Rows.{model_of}
 use Rattle.memory.specs.Memory.{Memory, state_of, lawful, Rows}
 use Rattle.memory.specs.Promise.{is_refusal, due_start}
-use Rattle.run.specs.declared.Ran.{Ran}
-use Rattle.run.specs.declared.Ran.TheVariants.{Done, Refused}
+use Rattle.definition.specs.declared.refusal.Refusal.{Refusal}
+use Rattle.definition.specs.Answer.{refusal_number, one_refusal}
+use Rattle.run.specs.declared.Ran.{Ran as Counts}
 use Rattle.run.specs.Made.{Made, made}
 use Rattle.run.specs.Rows.{row_of, rows_of}
 
 -- ---- a run
+
+-- how many calls were made, the place of the next, and how many bytes of the record were written; or the number of the refusal
+pub data Ran : Type 0 where
+  Done : ℕ → ℕ → ℕ → Ran
+  Refused : ℕ → Ran
+
+-- what a run of the code answers
+abbrev pub ran : Result Counts Refusal → Ran
+ran (Ok x) = Done x.calls x.next x.recorded
+ran (Err r) = Refused (refusal_number r)
+
+ran_out : Ran → Result Counts ℕ
+ran_out (Done calls next recorded) = Ok (record { calls = calls; next = next; recorded = recorded })
+ran_out (Refused n) = Err n
+
+numbered : Result Counts Refusal → Result Counts ℕ
+numbered (Ok x) = Ok x
+numbered (Err r) = Err (refusal_number r)
+
+ran_back : (r : Result Counts Refusal) → ran_out (ran r) ≡ numbered r
+unfolding ran_out numbered
+ran_back (Ok x) = refl
+ran_back (Err r) = refl
+
+one_numbered : (r s : Result Counts Refusal) → numbered r ≡ numbered s → r ≡ s
+unfolding numbered
+one_numbered (Ok x) (Ok y) e = let same : x ≡ y = cc in ap Ok same
+one_numbered (Ok x) (Err s) e = let z : ◌≡◌ {A = ℕ} 0 1 = cc in absurd (omega arith)
+one_numbered (Err r) (Ok y) e = let z : ◌≡◌ {A = ℕ} 0 1 = cc in absurd (omega arith)
+one_numbered (Err r) (Err s) e = let same : refusal_number r ≡ refusal_number s = cc in ap Err (one_refusal r s same)
+
+-- an answer is settled by what it says
+pub one_ran : (r s : Result Counts Refusal) → ran r ≡ ran s → r ≡ s
+one_ran r s e = one_numbered r s (sym (ran_back r) ∙ ap ran_out e ∙ ran_back s)
 
 -- the start is refused: nothing is written
 pub record Untouched (m : Memory) (a : Ran) (w : Memory) (answers answers' : Rows) (committed committed' : List ℕ) : Type 0 where

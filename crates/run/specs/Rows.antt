@@ -2,7 +2,7 @@
 use Rattle.std.specs.Prelude.{◌≡◌, ℕ, suc, length, get_or}
 use Rattle.std.proofs.Math.Path.{refl, ap}
 use mathlib.Core.List.{List, [], ◌∷◌, ◌++◌, map}
-use Rattle.definition.specs.declared.Answer.{Answer}
+use Rattle.definition.specs.Answer.{Answer}
 use Rattle.definition.specs.declared.Call.{Call}
 use Rattle.definition.specs.State.{State}
 use Rattle.definition.specs.Calls.{number_of, values_of}

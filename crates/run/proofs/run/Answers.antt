@@ -1,17 +1,17 @@
 -- `run::run` meets its contract: a start that is refused writes nothing; one that is not leaves a lawful memory with the first state of its model, and the
 -- calls made on it are the model's rehearsal.
-use mathlib.Core.Path.{sym, ◌∙◌}
-use Rattle.run.proofs.Starting.{run_refused, run_done}
+use Rattle.std.proofs.Common.{refl}
+use Rattle.std.proofs.lemmas.Result.{err_from_is_err_and}
+use Rattle.run.proofs.Starting.{no_refusal, run_refused, run_done}
 use Rattle.run.proofs.run.Goals as goal
 
-pub returns-then-is_refusal : goal.returns-then-is_refusal
-returns-then-is_refusal c =
-    run_refused _ _ _ _ c.start.ensures _ _ (sym c.is_refusal.ensures ∙ c.if-is_refusal.true)
+pub returns-in_err-start-clause-runs : goal.returns-in_err-start-clause-runs
+returns-in_err-start-clause-runs c =
+    let p = err_from_is_err_and c.from_residual.result c.from_residual.ensures.1 in
+    rw (p.1, p.2) (run_refused _ _ _ _ c.in_err-start.ensures _ _ refl)
 
 pub work-requires : goal.work-requires
-work-requires c =
-    c.start.ensures.lawful_first (sym c.is_refusal.ensures ∙ c.if-is_refusal.false)
+work-requires c = c.in_ok-start.ensures.lawful_first (no_refusal _)
 
-pub returns : goal.returns
-returns c =
-    run_done _ _ _ _ c.start.ensures _ _ (sym c.is_refusal.ensures ∙ c.if-is_refusal.false) _ _ _ _ c.work.ensures
+pub returns-clause-runs : goal.returns-clause-runs
+returns-clause-runs c = run_done _ _ _ _ c.in_ok-start.ensures _ _ (no_refusal _) _ _ _ _ c.work.ensures.works
