@@ -2,24 +2,30 @@
 // A function that lends them is thin and takes plain parameters.
 ghost use Rattle.std.specs.Prelude.{◌≡◌, ◌≤◌, take};
 ghost use Rattle.definition.specs.Host.{lowest_unread};
-ghost use Rattle.host.specs.Steps.{outcome};
+ghost use Rattle.host.specs.Steps.{answered, refusal, standing, stepped_of};
 
 use crate::change::at_most;
 use crate::say;
-use crate::statement::{LOWEST, STEP, Statement};
 use definition::lent::Rules;
+use definition::numbers::LARGEST;
+use definition::refusal::Refusal;
 use definition::{Stand, Summary};
-use host::{Outcome, Stepped};
-use memory::size;
 use std::io;
 
-// The step of a mode and tally, lent by `&mut`.
-fn stepped(model: &[Rules], process: u32, stand: Stand, kind: u32, value: u32) -> Outcome
-    ensures { result ≡ outcome model.now process stand kind value }
+// The step of a mode and tally, lent by `&mut`: what it answers, and where they stand then.
+fn stepped(
+    model: &[Rules],
+    process: u32,
+    stand: Stand,
+    kind: u32,
+    value: u32,
+) -> (Result<(), Refusal>, Stand)
+    ensures answers { stepped_of result.0 ≡ answered (refusal model.now process) }
+    ensures stands { result.1 ≡ standing model.now process stand kind value }
 {
     let mut now = stand;
     let answer = host::step(model, process, &mut now, kind, value);
-    Outcome { stand: now, answer }
+    (answer, now)
 }
 
 // The lowest unread time over the first so many of three summaries, lent as a slice.
@@ -30,24 +36,24 @@ fn lowest_of(summaries: [Summary; 3], count: usize) -> u32
     host::lowest_unread(&summaries[..count])
 }
 
-fn answer(rt: &impl Print, answer: Stepped) -> io::Result<()> {
-    match answer {
-        Stepped::Done => say::ok(rt),
-        Stepped::Refused(number) => say::refused(rt, number),
-    }
-}
-
 // The step of a process in a mode, by a message of a kind and of value 1. Its tally is the largest.
-fn step(rt: &impl Print, model: &[Rules], statement: Statement) -> io::Result<()> {
+pub fn step(
+    rt: &impl Print,
+    model: &[Rules],
+    process: u32,
+    mode: u32,
+    kind: u32,
+) -> io::Result<()> {
     let stand = Stand {
-        mode: statement.b,
-        tally: 4294967295,
+        mode,
+        tally: LARGEST,
     };
-    let outcome = stepped(model, statement.a, stand, statement.c, 1);
-    let done = outcome.answer;
-    let after = outcome.stand;
-    answer(rt, done)?;
-    say::stands(rt, after)
+    let (answer, now) = stepped(model, process, stand, kind, 1);
+    match answer {
+        Ok(()) => say::ok(rt)?,
+        Err(refusal) => say::refused(rt, refusal)?,
+    }
+    say::stands(rt, now)
 }
 
 fn summary(unread: u32) -> Summary {
@@ -59,24 +65,7 @@ fn summary(unread: u32) -> Summary {
 }
 
 // The lowest of the first so many of three unread times.
-fn lowest(rt: &impl Print, statement: Statement) -> io::Result<()> {
-    let count = at_most(rt, size(statement.a), 3)?;
-    let summaries = [
-        summary(statement.b),
-        summary(statement.c),
-        summary(statement.d),
-    ];
-    say::number(rt, lowest_of(summaries, count))
-}
-
-// The host's call that a statement says, if it says one.
-pub fn call(rt: &impl Print, model: &[Rules; 8], statement: Statement) -> io::Result<()> {
-    let verb = statement.verb;
-    if verb == STEP {
-        step(rt, model, statement)?;
-    }
-    if verb == LOWEST {
-        lowest(rt, statement)?;
-    }
-    Ok(())
+pub fn lowest(rt: &impl Print, count: u32, unread: [u32; 3]) -> io::Result<()> {
+    let count = at_most(rt, count as usize, 3)?;
+    say::number(rt, lowest_of(unread.map(summary), count))
 }

@@ -10,13 +10,13 @@ use std::io::Read;
 mod change;
 mod hosts;
 mod listing;
-mod same;
 mod say;
 mod statement;
 mod words;
 mod work;
 
-// Reads until these bytes are full or the input has ended, and gives how many it read.
+// Reads until these bytes are full or the input has ended, and gives how many it read. Each program has this loop: std's `read_exact` fails where the
+// input is shorter, and its `read_to_end` allocates.
 fn fill(input: &mut impl Read, bytes: &mut [u8]) -> io::Result<usize>
     ensures { IfOk result (λ count. count ≤ length bytes.new) }
 {

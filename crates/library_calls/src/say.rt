@@ -1,29 +1,21 @@
 // The printed lines: a state's name, and what calls on it answered.
-use crate::statement::BYTES;
-use crate::words::NONE;
+use definition::refusal::Refusal;
 use definition::{Answer, Stand};
 use std::io;
 
-// A part of the table, from one place to another.
-fn part(rt: &impl Print, text: &[u8], from: usize, end: usize) -> io::Result<()> {
-    if end < from {
-        return Ok(());
-    }
-    if text.len() < end {
-        return Ok(());
-    }
-    rt.write_all(&text[from..end])
-}
-
 // A line, without the `= ` before it.
-pub fn line(rt: &impl Print, text: &[u8], from: usize, end: usize) -> io::Result<()> {
-    part(rt, text, std::num::wrapping_add_usize(from, 2), end)?;
+pub fn line(rt: &impl Print, line: &[u8]) -> io::Result<()> {
+    if let Some(title) = line.get(2..) {
+        rt.write_all(title)?;
+    }
     end_line(rt)
 }
 
 // A name, without the space after it.
-pub fn name(rt: &impl Print, text: &[u8], from: usize, end: usize) -> io::Result<()> {
-    part(rt, text, from, std::num::wrapping_sub_usize(end, 1))?;
+pub fn name(rt: &impl Print, name: &[u8]) -> io::Result<()> {
+    if let Some((_, name)) = name.split_last() {
+        rt.write_all(name)?;
+    }
     rt.print(":")
 }
 
@@ -36,117 +28,93 @@ pub fn bad(rt: &impl Print) -> io::Result<()> {
     rt.print(" bad table")
 }
 
-// A statement that cannot be read.
-pub fn fault(rt: &impl Print, verb: u64) -> io::Result<()> {
-    if verb == NONE {
-        bad(rt)?;
-    }
-    Ok(())
-}
-
 pub fn number(rt: &impl Print, number: u32) -> io::Result<()> {
     print!(rt; " {number}")
 }
 
-fn byte(rt: &impl Print, byte: u8) -> io::Result<()> {
-    print!(rt; " {byte}")
-}
-
 pub fn then(rt: &impl Print, word: u32) -> io::Result<()> {
-    rt.print(", then")?;
-    number(rt, word)
+    print!(rt; ", then {word}")
 }
 
-// The buffer, by its verb.
-pub fn bytes(rt: &impl Print, buffer: &[u8; 20], verb: u64) -> io::Result<()> {
-    if verb != BYTES {
-        return Ok(());
-    }
+pub fn bytes(rt: &impl Print, buffer: &[u8]) -> io::Result<()> {
     rt.print(", bytes")?;
-    let mut i: usize = 0;
-    while i < 20 {
-        byte(rt, buffer[i])?;
-        i = i + 1;
+    for byte in buffer {
+        print!(rt; " {byte}")?;
     }
     Ok(())
 }
 
-// How a call's answer is printed: not at all, `ok` or the number, or the whole of it.
-pub const SILENT: u32 = 0;
-
-pub const SHORT: u32 = 1;
-
-pub const WHOLE: u32 = 2;
+// How a call's answer is printed: not at all, the whole of it, or `ok` or the number that refuses it.
+#[derive(Clone, Copy, PartialEq, Eq)]
+pub enum Manner {
+    Silent,
+    Whole,
+    Short,
+}
 
 pub fn ok(rt: &impl Print) -> io::Result<()> {
     rt.print(" ok")
 }
 
-pub fn refused(rt: &impl Print, number_of: u32) -> io::Result<()> {
+pub fn refused(rt: &impl Print, refusal: Refusal) -> io::Result<()> {
     rt.print(" refused")?;
-    number(rt, number_of)
+    number(rt, u32::from(refusal))
 }
 
 // A refusal that did not leave all as it was says so where it is short, and one that did where it is whole.
-fn refusal(rt: &impl Print, number_of: u32, kept: bool, manner: u32) -> io::Result<()> {
-    if manner == WHOLE {
-        refused(rt, number_of)?;
-        if kept {
-            rt.print(", as it was")?;
+fn refusal(rt: &impl Print, refusal: Refusal, kept: bool, manner: Manner) -> io::Result<()> {
+    match manner {
+        Manner::Silent => Ok(()),
+        Manner::Whole => {
+            refused(rt, refusal)?;
+            rt.print(if kept { ", as it was" } else { "" })
         }
-        return Ok(());
+        Manner::Short => {
+            number(rt, u32::from(refusal))?;
+            rt.print(if kept { "" } else { " changed" })
+        }
     }
-    number(rt, number_of)?;
-    if !kept {
-        rt.print(" changed")?;
-    }
-    Ok(())
 }
 
-// `ok`, and the last so many of three numbers where it is whole.
-fn done(
-    rt: &impl Print,
-    manner: u32,
-    count: u32,
-    first: u32,
-    second: u32,
-    third: u32,
-) -> io::Result<()> {
-    ok(rt)?;
-    if manner != WHOLE {
-        return Ok(());
+// `ok`, and the numbers where it is whole.
+fn done(rt: &impl Print, manner: Manner, numbers: &[u32]) -> io::Result<()> {
+    match manner {
+        Manner::Silent => Ok(()),
+        Manner::Whole => {
+            ok(rt)?;
+            for value in numbers {
+                number(rt, *value)?;
+            }
+            Ok(())
+        }
+        Manner::Short => ok(rt),
     }
-    if 3 <= count {
-        number(rt, first)?;
-    }
-    if 2 <= count {
-        number(rt, second)?;
-        number(rt, third)?;
-    }
-    Ok(())
 }
 
 // What a call answered, and whether all was left as it was.
-pub fn answer(rt: &impl Print, answer: Answer, kept: bool, manner: u32) -> io::Result<()> {
-    if manner == SILENT {
-        return Ok(());
-    }
+pub fn answer(
+    rt: &impl Print,
+    answer: Result<Answer, Refusal>,
+    kept: bool,
+    manner: Manner,
+) -> io::Result<()> {
     match answer {
-        Answer::Refused(number) => refusal(rt, number, kept, manner),
-        Answer::Started | Answer::Injected => done(rt, manner, 0, 0, 0, 0),
-        Answer::Delivered { undone, cancelled } => done(rt, manner, 2, 0, undone, cancelled),
-        Answer::Executed { time, read, sent } => done(rt, manner, 3, time, read, sent),
-        Answer::Advanced {
-            horizon,
-            entries,
-            bytes,
-        } => done(rt, manner, 3, horizon, entries, bytes),
+        Err(cause) => refusal(rt, cause, kept, manner),
+        Ok(Answer::Started | Answer::Injected) => done(rt, manner, &[]),
+        Ok(Answer::Delivered { undone, cancelled }) => done(rt, manner, &[undone, cancelled]),
+        Ok(Answer::Executed { time, read, sent }) => done(rt, manner, &[time, read, sent]),
+        Ok(
+            Answer::Advanced {
+                horizon,
+                entries,
+                bytes,
+            },
+        ) => done(rt, manner, &[horizon, entries, bytes]),
     }
 }
 
 // Where a process stands.
 pub fn stands(rt: &impl Print, stand: Stand) -> io::Result<()> {
-    rt.print(", then")?;
-    number(rt, stand.mode)?;
+    then(rt, stand.mode)?;
     number(rt, stand.tally)
 }

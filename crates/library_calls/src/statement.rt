@@ -1,163 +1,145 @@
 // The statements of the table: a verb and up to five numbers. The table begins with the verbs, each on a line with how many numbers it has and the
 // names of its fields; a verb is the number of its line, and a name stands for its place.
-use crate::words::{BAR, LARGEST, NONE, SPACE, decimal, find, find_line, word_after};
+use crate::words::{decimal, find, find_line, word};
+use definition::numbers::NEVER;
 
-// A change of one word, or of all rows from one on. Half of the verb is the list: transit, inputs, outputs, own.
-pub const MAIL: u64 = 2;
+// What the lines of the table's head stand for, in their order. The first two are a title, which does nothing.
+#[derive(Clone, Copy, PartialEq, Eq, PartialOrd, Ord)]
+pub enum Verb {
+    Title,
+    Mail,
+    Mails,
+    Input,
+    Inputs,
+    Output,
+    Outputs,
+    Event,
+    Events,
+    Process,
+    Whole,
+    Rule,
+    Model,
+    Rules,
+    Step,
+    Lowest,
+    Bytes,
+    Call(Call),
+}
 
-pub const MAILS: u64 = 3;
+// A fresh start is one that is not printed.
+#[derive(Clone, Copy, PartialEq, Eq, PartialOrd, Ord)]
+pub enum Call {
+    Fresh,
+    Start,
+    Inject,
+    Deliver,
+    Execute,
+    Advance,
+}
 
-pub const EVENTS: u64 = 9;
+// A statement that cannot be read.
+#[derive(Clone, Copy)]
+pub struct Unreadable;
 
-pub const PROCESS: u64 = 10;
+impl TryFrom<usize> for Verb {
+    type Error = Unreadable;
 
-// The last verb that may lack its last number.
-pub const WHOLE: u64 = 11;
-
-pub const RULE: u64 = 12;
-
-pub const MODEL: u64 = 13;
-
-pub const RULES: u64 = 14;
-
-pub const STEP: u64 = 15;
-
-pub const LOWEST: u64 = 16;
-
-pub const BYTES: u64 = 17;
-
-// The calls. A fresh start is not printed.
-pub const FRESH: u64 = 18;
-
-pub const INJECT: u64 = 20;
-
-pub const DELIVER: u64 = 21;
-
-pub const EXECUTE: u64 = 22;
-
-pub const ADVANCE: u64 = 23;
-
-// Nothing more on the line. What cannot be read is the verb NONE.
-pub const NOTHING: u64 = 24;
+    fn try_from(line: usize) -> Result<Verb, Unreadable> {
+        match line {
+            0 | 1 => Ok(Verb::Title),
+            2 => Ok(Verb::Mail),
+            3 => Ok(Verb::Mails),
+            4 => Ok(Verb::Input),
+            5 => Ok(Verb::Inputs),
+            6 => Ok(Verb::Output),
+            7 => Ok(Verb::Outputs),
+            8 => Ok(Verb::Event),
+            9 => Ok(Verb::Events),
+            10 => Ok(Verb::Process),
+            11 => Ok(Verb::Whole),
+            12 => Ok(Verb::Rule),
+            13 => Ok(Verb::Model),
+            14 => Ok(Verb::Rules),
+            15 => Ok(Verb::Step),
+            16 => Ok(Verb::Lowest),
+            17 => Ok(Verb::Bytes),
+            18 => Ok(Verb::Call(Call::Fresh)),
+            19 => Ok(Verb::Call(Call::Start)),
+            20 => Ok(Verb::Call(Call::Inject)),
+            21 => Ok(Verb::Call(Call::Deliver)),
+            22 => Ok(Verb::Call(Call::Execute)),
+            23 => Ok(Verb::Call(Call::Advance)),
+            _ => Err(Unreadable),
+        }
+    }
+}
 
 #[derive(Clone, Copy)]
 pub struct Statement {
-    pub verb: u64,
-    // Whether the last number is there.
-    pub is_whole: bool,
-    pub a: u32,
-    pub b: u32,
-    pub c: u32,
-    pub d: u32,
-    pub e: u32,
-    // The place after it.
-    pub next: usize,
+    pub verb: Verb,
+    // A number that is not there is 0.
+    pub numbers: [u32; 5],
+    is_whole: bool,
 }
 
-// A number of a statement, how many there are up to it, and the place after it.
-#[derive(Drop)]
-struct Argument {
-    number: u32,
-    count: u64,
-    after: usize,
+impl Statement {
+    // A value, which is the last number of its verb, where the statement does not lack it.
+    pub fn value(self, number: u32) -> Option<u32> {
+        self.is_whole.then_some(number)
+    }
 }
 
 // A number, "never", or the name of a field.
-fn number_of(text: &[u8], fields: usize, word: &[u8]) -> u64 {
+fn number(fields: &[u8], word: &[u8]) -> Option<u32> {
     if word == b"never".as_slice() {
-        return LARGEST;
+        return Some(NEVER);
     }
-    let number = decimal(word);
-    if number <= LARGEST {
-        return number;
-    }
-    find(text, fields, word)
+    decimal(word).or_else(|| u32::try_from(find(fields, word)?).ok())
 }
 
-// The next number of a statement, 0 where there is none. One that cannot be read counts for many.
-fn argument_after(text: &[u8], fields: usize, count: u64, at: usize) -> Argument {
-    let word = word_after(text, at, SPACE);
-    let from = word.from;
-    let end = word.end;
-    if from == end {
-        return Argument {
-            number: 0,
-            count,
-            after: at,
+// Whether a verb has all its numbers here, or all but the last, which the verbs up to `Whole` may lack.
+fn is_whole(verb: Verb, arity: Option<u32>, numbers: &[Option<u32>]) -> Result<bool, Unreadable> {
+    let Some(arity) = arity else {
+        // Where the head does not say how many there are, the last one is to be a word that is no number.
+        return match numbers.last() {
+            Some(None) => Ok(true),
+            _ => Err(Unreadable),
         };
+    };
+    if numbers.contains(&None) {
+        return Err(Unreadable);
     }
-    let number = number_of(text, fields, &text[from..end]);
-    if LARGEST < number {
-        return Argument {
-            number: 0,
-            count: NONE,
-            after: end,
-        };
-    }
-    Argument {
-        number: number as u32,
-        count: std::num::wrapping_add_u64(count, 1),
-        after: end,
+    match (arity as usize).checked_sub(numbers.len()) {
+        Some(0) => Ok(true),
+        Some(1) if verb <= Verb::Whole => Ok(false),
+        _ => Err(Unreadable),
     }
 }
 
-// The verb, if it is one and has as many numbers as it should; a word is printed where its value is not there.
-fn judged(verb: u64, count: u64, arity: u64) -> u64 {
-    if NOTHING <= verb {
-        return NONE;
-    }
-    if count == arity {
-        return verb;
-    }
-    if WHOLE < verb {
-        return NONE;
-    }
-    if std::num::wrapping_add_u64(count, 1) == arity {
-        return verb;
-    }
-    NONE
+// The statement of a verb's name and the words after it. Empty words are none.
+fn statement_of(table: &[u8], name: &[u8], words: [&[u8]; 5]) -> Result<Statement, Unreadable> {
+    let (line, after) = find_line(table, name).ok_or(Unreadable)?;
+    let verb = Verb::try_from(line)?;
+    let (arity, fields) = word(after, b" ");
+    let count = words.iter().take_while(|word| !word.is_empty()).count();
+    let numbers = words.map(|word| number(fields, word));
+    Ok(Statement {
+        verb,
+        numbers: numbers.map(|number| number.unwrap_or(0)),
+        is_whole: is_whole(verb, decimal(arity), &numbers[..count])?,
+    })
 }
 
-// The numbers after a verb that stands on a line of the table's head.
-fn numbers(text: &[u8], verb: u64, head: usize, at: usize) -> Statement {
-    let word = word_after(text, head, SPACE);
-    let from = word.from;
-    let fields = word.end;
-    let arity = decimal(&text[from..fields]);
-    let a = argument_after(text, fields, 0, at);
-    let b = argument_after(text, fields, a.count, a.after);
-    let c = argument_after(text, fields, b.count, b.after);
-    let d = argument_after(text, fields, c.count, c.after);
-    let e = argument_after(text, fields, d.count, d.after);
-    Statement {
-        verb: judged(verb, e.count, arity),
-        is_whole: e.count == arity,
-        a: a.number,
-        b: b.number,
-        c: c.number,
-        d: d.number,
-        e: e.number,
-        next: e.after,
+// The statement that follows a place, if the line does not end there, and what follows it.
+pub fn read<'a>(table: &[u8], text: &'a [u8]) -> (Option<Result<Statement, Unreadable>>, &'a [u8]) {
+    let (name, rest) = word(text, b" |");
+    if name.is_empty() {
+        return (None, rest);
     }
-}
-
-// The statement that follows a place.
-pub fn read(text: &[u8], at: usize) -> Statement {
-    let word = word_after(text, at, BAR);
-    let from = word.from;
-    let end = word.end;
-    if from == end {
-        return Statement {
-            verb: NOTHING,
-            is_whole: true,
-            a: 0,
-            b: 0,
-            c: 0,
-            d: 0,
-            e: 0,
-            next: end,
-        };
-    }
-    let entry = find_line(text, &text[from..end]);
-    numbers(text, entry.line, entry.after, end)
+    let (a, rest) = word(rest, b" ");
+    let (b, rest) = word(rest, b" ");
+    let (c, rest) = word(rest, b" ");
+    let (d, rest) = word(rest, b" ");
+    let (e, rest) = word(rest, b" ");
+    (Some(statement_of(table, name, [a, b, c, d, e])), rest)
 }

@@ -6,4 +6,4 @@ pub returns-in_default-clause-goes_on : goal.returns-in_default-clause-goes_on
 returns-in_default-clause-goes_on g c = at_end
 
 pub returns-clause-goes_on : goal.returns-clause-goes_on
-returns-clause-goes_on g c = rw c.in-Printed.is at_next
+returns-clause-goes_on g c = rw c.in-Ok.is at_next

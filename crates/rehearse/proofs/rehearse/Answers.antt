@@ -6,8 +6,8 @@ pub put-requires : goal.put-requires
 put-requires g c = (first_moves c.begin-first.ensures).end
 
 pub put-requires-in-loop-at : goal.put-requires-in-loop-at
-put-requires-in-loop-at g c = (turn_moves _ _ _ c.loop-at-test.true c.step-turn.ensures).end
+put-requires-in-loop-at g c = (turn_moves _ _ _ c.loop-at-test.true c.step-turn.ensures.prints).end
 
 pub loop-at-smaller : goal.loop-at-smaller
 loop-at-smaller g c =
-    omega (arith, turn_onward _ _ _ c.loop-at-test.true c.step-turn.ensures, c.in_ok-at-2.ensures.onward)
+    omega (arith, turn_onward _ _ _ c.loop-at-test.true c.step-turn.ensures.prints, c.in_ok-at-2.ensures.onward)

@@ -1,6 +1,6 @@
--- Nothing is asked of the place; the measure is what is left of the table.
-use Rattle.std.proofs.Common.{◌-◌, length}
+-- Each call stands further on than the one before.
+use Rattle.std.proofs.Common.{length}
 use Rattle.library_calls.proofs.listing.calls.Given as goal
 
 abbrev pub decreases-loop-call : goal.decreases-loop-call
-decreases-loop-call g l = length l.text - l.call
+decreases-loop-call g l = length l.call
