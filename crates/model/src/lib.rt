@@ -3,7 +3,7 @@
 // rows that are lent.
 #![tactic(auto)]
 
-ghost use Rattle.std.specs.Prelude.{◌≡◌, ◌-◌, ◌≤◌, length, set};
+ghost use Rattle.std.specs.Prelude.{◌≡◌, ◌-◌, length, set};
 ghost use Rattle.definition.specs.ModelBytes.{rules_at, setup_at, setups_at, model_in};
 ghost use Rattle.definition.specs.Model.{Setup};
 ghost use Rattle.model.specs.Stored.{puts, put_rule, put_setup, put_process, put_model, Reads, headed, has_room, told, Promise};
@@ -62,13 +62,12 @@ fn setup_at(
     at: usize,
     rows: &mut [RuleRow],
 ) -> Result<(u32, usize), Fault>
-    requires { 1 ≤ processes }
     ensures { Reads (λ (u : Setup). length u.rules) (put_setup processes) (setup_at bytes.now (processes - 1) at) rows.old rows.new result }
 {
     let (mode, next) = field(bytes, 0, HIGHEST_MODE, at)?;
     let (tally, next) = field(bytes, 0, LARGEST, next)?;
     let (count, next) = field(bytes, 0, 64, next)?;
-    let (rules, next) = rules_at(bytes, processes - 1, count, next, rows)?;
+    let (rules, next) = rules_at(bytes, processes.saturating_sub(1), count, next, rows)?;
     put(rows, 0, heading(rules, mode, tally, processes));
     Ok((rules, next))
 }
@@ -81,7 +80,6 @@ fn process_at(
     model: &mut [Rules],
     place: usize,
 ) -> Result<(u32, usize), Fault>
-    requires { 1 ≤ processes }
     ensures { Reads (λ (u : Setup). length u.rules) (put_process processes place) (setup_at bytes.now (processes - 1) at) model.old model.new result }
 {
     if place < model.len() {
@@ -98,7 +96,6 @@ fn processes_at(
     at: usize,
     model: &mut [Rules],
 ) -> Result<(u32, usize), Fault>
-    requires { 1 ≤ processes }
     ensures { Reads length (puts (put_process processes) 0) (setups_at bytes.now (processes - 1) processes at) model.old model.new result }
 {
     let mut next = at;
