@@ -19,6 +19,7 @@ use definition::refusal::Refusal;
 use definition::{Answer, Stand, Time};
 use history::History;
 use memory::{ENTRIES, EVENTS, MAILS, OUTPUTS};
+use queue::input::Entries;
 use queue::rows::{RECEIVED, RECEIVER};
 
 // A rollback of the receiver: how many output entries and how many events it keeps, and how many of each it removes.
@@ -78,7 +79,9 @@ fn judge(
     let counts = own[0];
     let entries = counts[ENTRIES] as usize;
     let anti = queue::transit::is_anti(m);
-    let rows = queue::input::judge(&inputs[..entries], m, anti).ok_or(Refusal::BadState)?;
+    let rows = Entries::new(&inputs[..entries])
+        .judge(m, anti)
+        .ok_or(Refusal::BadState)?;
     let back = roll_back(outputs, own, m[RECEIVED]);
     if TRANSIT < mails - 1 + back.cancelled || QUEUE < rows {
         return Err(Refusal::NoRoom);

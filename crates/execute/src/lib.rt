@@ -16,6 +16,7 @@ use definition::refusal::Refusal;
 use definition::{Answer, Saved, Stand};
 use event::Outbox;
 use memory::{ENTRIES, EVENTS, MAILS, MODE, OUTPUTS, TALLY};
+use queue::input::Entries;
 
 // An event that is due, as the history will keep it; the first row of the input queue that is not received before it; how many messages it sends;
 // and where the process stands before it.
@@ -34,7 +35,8 @@ fn judge(rules: &[RuleRow], q: &[Row], own: &[Row], mails: usize) -> Result<Due,
     ensures { Judged rules.now own.now q.now mails result }
 {
     let numbers = own[0];
-    let entries = &q[..numbers[ENTRIES] as usize];
+    let rows = &q[..numbers[ENTRIES] as usize];
+    let entries = Entries::new(rows);
     let outputs = numbers[OUTPUTS] as usize;
     let events = numbers[EVENTS] as usize;
     let base = Stand {
@@ -42,13 +44,13 @@ fn judge(rules: &[RuleRow], q: &[Row], own: &[Row], mails: usize) -> Result<Due,
         tally: numbers[TALLY],
     };
     let last = history::last(own, events, base);
-    let time = queue::input::unread(entries, last.time);
+    let time = entries.unread(last.time);
     if NEVER <= time {
         return Err(Refusal::Idle);
     }
-    let from = queue::input::received_before(entries, time);
+    let from = entries.received_before(time);
     let before = last.stand;
-    let end = event::outcome(rules, &entries[from..], time, before);
+    let end = event::outcome(rules, &rows[from..], time, before);
     let sent = end.sent;
     if TRANSIT < mails + sent || QUEUE < outputs + sent || HISTORY <= events {
         return Err(Refusal::NoRoom);

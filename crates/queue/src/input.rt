@@ -25,36 +25,109 @@ pub const LOWEST: u32 = 127;
 
 pub const HIGHEST: u32 = 385;
 
-// How many of the rows are read before m.
-fn place(q: &[Row], m: Row) -> usize
-    requires { in_order entry_key (map entry_of q.now) ≡ true }
-    ensures { Placed q.now m result }
-{
-    q.iter()
-        .rposition(|e| rows::compare(m, *e).is_gt())
-        .map_or(0, |i| i + 1)
-}
-
-// The entry that the message of m has, or else the place where it is new: as the library's `binary_search` answers.
-#[tactic(auto, using(crate::proofs::Arrivals::found_again, crate::proofs::Arrivals::found_between, crate::proofs::Arrivals::found_last))]
-fn find(q: &[Row], m: Row) -> Result<usize, usize>
-    requires { in_order entry_key (map entry_of q.now) ≡ true }
-    ensures { Found q.now m result }
-{
-    let i = place(q, m);
-    if i < q.len() && rows::compare(m, q[i]).is_eq() {
-        Ok(i)
-    } else {
-        Err(i)
-    }
-}
-
 // A net count + 256 after one more arrival.
 fn step(c: u32, anti: bool) -> u32
     requires { (1 ≤ c) × (c < 512) }
     ensures { result ≡ moved anti c }
 {
     if anti { c - 1 } else { c + 1 }
+}
+
+// How many of n entries there are where one of them has the count c, or None where that passes 129 or -129.
+fn rows_with(n: usize, c: u32) -> Option<usize>
+    requires { 0 < n }
+    ensures { result ≡ cond (eqb c 256) (Some (n - 1)) (then_some (ok_net (net_of c)) n) }
+{
+    if c == ZERO {
+        return Some(n - 1);
+    }
+    (LOWEST..=HIGHEST).contains(&c).then_some(n)
+}
+
+// An event at time t reads this row.
+#[tactic(auto, using(crate::proofs::Nets::net_positive))]
+pub fn is_read(e: Row, t: Time) -> bool
+    ensures { result ≡ is_read t (entry_of e) }
+{
+    e[RECEIVED] == t && ZERO < e[COUNT]
+}
+
+// The entry of this row is unread after a time.
+#[tactic(auto, using(crate::proofs::Nets::net_positive))]
+fn is_unread(e: &Row, after: Time) -> bool
+    ensures { result ≡ is_unread after (entry_of e.now) }
+{
+    after < e[RECEIVED] && ZERO < e[COUNT]
+}
+
+// The rows of an input queue, in the reading order.
+#[derive(Clone, Copy)]
+pub struct Entries<'a> {
+    rows: &'a [Row],
+    ghost order: { in_order entry_key (map entry_of rows.now) ≡ true },
+}
+
+impl<'a> Entries<'a> {
+    // These rows.
+    pub fn new(rows: &'a [Row]) -> Self
+        requires { in_order entry_key (map entry_of rows.now) ≡ true }
+        ensures { result.rows.now ≡ rows.now }
+    {
+        Entries { rows }
+    }
+
+    // How many of the rows are read before m.
+    fn place(&self, m: Row) -> usize
+        ensures { Placed self.now.rows.now m result }
+    {
+        self.rows
+            .iter()
+            .rposition(|e| rows::compare(m, *e).is_gt())
+            .map_or(0, |i| i + 1)
+    }
+
+    // The entry that the message of m has, or else the place where it is new: as the library's `binary_search` answers.
+    #[tactic(auto, using(crate::proofs::Arrivals::found_again, crate::proofs::Arrivals::found_between, crate::proofs::Arrivals::found_last))]
+    fn find(&self, m: Row) -> Result<usize, usize>
+        ensures { Found self.now.rows.now m result }
+    {
+        let q = self.rows;
+        let i = self.place(m);
+        if i < q.len() && rows::compare(m, q[i]).is_eq() {
+            Ok(i)
+        } else {
+            Err(i)
+        }
+    }
+
+    // An arrival judged before it is made: how many rows there would be, or None where a net count would pass 129 or -129. Nothing is written.
+    pub fn judge(&self, m: Row, anti: bool) -> Option<usize>
+        requires { ok_nets (map entry_of self.now.rows.now) ≡ true }
+        ensures { Judged (length self.now.rows.now) (counted anti (message_of m) (map entry_of self.now.rows.now)) result }
+    {
+        let q = self.rows;
+        match self.find(m) {
+            Ok(i) => rows_with(q.len(), step(q[i][COUNT], anti)),
+            Err(_) => Some(q.len() + 1),
+        }
+    }
+
+    // How many rows were received before t: the place of the first row that an event at t may read.
+    pub fn received_before(&self, t: Time) -> usize
+        ensures { Parted entry_of received_at self.now.rows.now t result }
+    {
+        self.rows.iter().take_while(|e| e[RECEIVED] < t).count()
+    }
+
+    // The unread time after a time.
+    pub fn unread(&self, after: Time) -> Time
+        ensures { result ≡ unread_after after (map entry_of self.now.rows.now) }
+    {
+        self.rows
+            .iter()
+            .find(|e| is_unread(e, after))
+            .map_or(NEVER, |e| e[RECEIVED])
+    }
 }
 
 // Entry i is counted once more. The answer is how many rows the queue has now.
@@ -93,41 +166,10 @@ pub fn count(q: &mut [Row], n: usize, m: Row, anti: bool) -> usize
     requires room { length (counted anti (message_of m) (entries q.old n)) ≤ length q.old }
     ensures { Holds (entries q.new) result (counted anti (message_of m) (entries q.old n)) }
 {
-    match find(&q[..n], m) {
+    match Entries::new(&q[..n]).find(m) {
         Ok(i) => recount(q, n, i, anti),
         Err(i) => add(q, n, i, m, anti),
     }
-}
-
-// How many of n entries there are where one of them has the count c, or None where that passes 129 or -129.
-fn rows_with(n: usize, c: u32) -> Option<usize>
-    requires { 0 < n }
-    ensures { result ≡ cond (eqb c 256) (Some (n - 1)) (then_some (ok_net (net_of c)) n) }
-{
-    if c == ZERO {
-        return Some(n - 1);
-    }
-    (LOWEST..=HIGHEST).contains(&c).then_some(n)
-}
-
-// An arrival judged before it is made: how many rows there would be, or None where a net count would pass 129 or -129. Nothing is written.
-pub fn judge(q: &[Row], m: Row, anti: bool) -> Option<usize>
-    requires order { in_order entry_key (map entry_of q.now) ≡ true }
-    requires nets { ok_nets (map entry_of q.now) ≡ true }
-    ensures { Judged (length q.now) (counted anti (message_of m) (map entry_of q.now)) result }
-{
-    match find(q, m) {
-        Ok(i) => rows_with(q.len(), step(q[i][COUNT], anti)),
-        Err(_) => Some(q.len() + 1),
-    }
-}
-
-// How many rows were received before t: the place of the first row that an event at t may read.
-pub fn received_before(q: &[Row], t: Time) -> usize
-    requires { in_order entry_key (map entry_of q.now) ≡ true }
-    ensures { Parted entry_of received_at q.now t result }
-{
-    q.iter().take_while(|e| e[RECEIVED] < t).count()
 }
 
 // Entries received before t are dropped: the others move down. The answer is how many rows the queue has now.
@@ -136,33 +178,7 @@ pub fn drop_before(q: &mut [Row], n: usize, t: Time) -> usize
     requires order { in_order entry_key (entries q.old n) ≡ true }
     ensures { Holds (entries q.new) result (keep (λ (e : Entry). leb t e.message.received) (entries q.old n)) }
 {
-    let k = received_before(&q[..n], t);
+    let k = Entries::new(&q[..n]).received_before(t);
     rows::drop_front(q, n, k);
     n - k
-}
-
-// An event at time t reads this row.
-#[tactic(auto, using(crate::proofs::Nets::net_positive))]
-pub fn is_read(e: Row, t: Time) -> bool
-    ensures { result ≡ is_read t (entry_of e) }
-{
-    e[RECEIVED] == t && ZERO < e[COUNT]
-}
-
-// The entry of this row is unread after a time.
-#[tactic(auto, using(crate::proofs::Nets::net_positive))]
-fn is_unread(e: &Row, after: Time) -> bool
-    ensures { result ≡ is_unread after (entry_of e.now) }
-{
-    after < e[RECEIVED] && ZERO < e[COUNT]
-}
-
-// The unread time after a time.
-pub fn unread(q: &[Row], after: Time) -> Time
-    requires { in_order entry_key (map entry_of q.now) ≡ true }
-    ensures { result ≡ unread_after after (map entry_of q.now) }
-{
-    q.iter()
-        .find(|e| is_unread(e, after))
-        .map_or(NEVER, |e| e[RECEIVED])
 }

@@ -7,7 +7,7 @@ use Rattle.execute.proofs.Reading.{readable, comes_to}
 use Rattle.execute.proofs.judge.Goals as goal
 
 pub outcome-end-requires : goal.outcome-end-requires
-outcome-end-requires c = let r = c.requires in readable c.received_before-from.ensures (omega (arith, r.inputs, length-take (number c.args.own.now 0) c.args.q.now)) (omega arith) r.order
+outcome-end-requires c = let r = c.requires in readable (rw c.new-entries.ensures at c.received_before-from.ensures) (omega (arith, r.inputs, length-take (number c.args.own.now 0) c.args.q.now)) (omega arith) r.order
 
 pub overflow_add-mails : goal.overflow_add-mails
 overflow_add-mails c = omega (arith, (c.outcome-end.ensures 0).within.sent, c.requires.mail)
@@ -17,7 +17,7 @@ overflow_cast-read c = omega (arith, (c.outcome-end.ensures 0).within.read)
 
 pub returns-then-mails-sent-gt-TRANSIT : goal.returns-then-mails-sent-gt-TRANSIT
 unfolding refusal
-returns-then-mails-sent-gt-TRANSIT c = λ p. let h = comes_to c.received_before-from.ensures c.args.rules.now _ _ c.outcome-end.ensures p in grind (arith, common_steps)
+returns-then-mails-sent-gt-TRANSIT c = λ p. let parted = rw c.new-entries.ensures at c.received_before-from.ensures in let h = comes_to parted c.args.rules.now _ _ c.outcome-end.ensures p in grind (arith, common_steps)
 
 pub returns : goal.returns
-returns c = λ p. let h = comes_to c.received_before-from.ensures c.args.rules.now _ _ c.outcome-end.ensures p in search rules
+returns c = λ p. let parted = rw c.new-entries.ensures at c.received_before-from.ensures in let h = comes_to parted c.args.rules.now _ _ c.outcome-end.ensures p in search rules
