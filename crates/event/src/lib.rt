@@ -8,7 +8,7 @@ ghost use Rattle.definition.specs.Message.{last_usable};
 ghost use Rattle.definition.specs.Model.{send_all};
 ghost use Rattle.queue.specs.Rows.{message_of};
 ghost use Rattle.rule.specs.Rows.{rule_of};
-ghost use Rattle.event.specs.Event.{Counted, RoomFor, Joined, SameRows, Within, Answered, start_at, read_of, done_from, RowRead, RowSends, Readable, event_of, ComesTo};
+ghost use Rattle.event.specs.Event.{Counted, RoomFor, Joined, SameRows, Within, start_at, read_of, done_from, RowRead, RowSends, Readable, event_of, ComesTo};
 
 use definition::lent::{Row, RuleRow};
 use definition::numbers::LAST_USABLE;
@@ -27,15 +27,13 @@ pub struct Walk {
 
 // A send is sent at a time, unless it would be received after the last usable time.
 fn is_sent(send: Send, time: Time) -> bool
-    requires { time ≤ last_usable }
     ensures { result ≡ leb (time + send.delay) last_usable }
 {
-    send.delay <= LAST_USABLE - time
+    time.saturating_add(send.delay) <= LAST_USABLE
 }
 
 // How many messages a rule sends.
 fn sends(rule: Decoded, time: Time) -> usize
-    requires { time ≤ last_usable }
     ensures { Counted time (rule_of rule).sends result }
 {
     [rule.first, rule.second]
@@ -52,42 +50,28 @@ fn ordinals(rule: Decoded) -> u32
     rule.count.min(2)
 }
 
-// A message that a rule answers is read.
-fn answered(rule: Decoded, time: Time, value: u32, w: Walk) -> Walk
-    requires { (time ≤ last_usable) × Within 64 w }
-    ensures { Answered rule time value w result }
-{
-    Walk {
-        stand: effect::after(rule, w.stand, value),
-        ordinal: w.ordinal + ordinals(rule),
-        read: w.read + 1,
-        sent: w.sent + sends(rule, time),
-    }
-}
-
-// A message that no rule answers is read: nothing changes and nothing is sent.
-fn unanswered(w: Walk) -> Walk
-    requires { Within 64 w }
-    ensures { result ≡ record w { read = w.read + 1 } }
-{
-    Walk {
-        read: w.read + 1,
-        ..w
-    }
-}
-
-// A row of the input queue, and the rule that answers it, where one does. A row of another time, or with a count below 1, is passed over.
+// A row of the input queue, and the rule that answers it, where one does. A row of another time, or with a count below 1, is passed over; a message
+// that no rule answers is read, and nothing else changes.
 fn read(rules: &[RuleRow], time: Time, row: Row, w: Walk) -> (Walk, Option<Decoded>)
-    requires { (time ≤ last_usable) × Within 64 w }
+    requires { Within 64 w }
     ensures row_read { RowRead rules.now time row w result.0 }
     ensures row_sends { RowSends rules.now time row w result.0 result.1 }
 {
     if !queue::input::is_read(row, time) {
         return (w, None);
     }
+    let read = w.read + 1;
     match found::find_among(rules, w.stand.mode, row[KIND]) {
-        Some(rule) => (answered(rule, time, row[VALUE], w), Some(rule)),
-        None => (unanswered(w), None),
+        Some(rule) => {
+            let next = Walk {
+                stand: effect::after(rule, w.stand, row[VALUE]),
+                ordinal: w.ordinal + ordinals(rule),
+                read,
+                sent: w.sent + sends(rule, time),
+            };
+            (next, Some(rule))
+        }
+        None => (Walk { read, ..w }, None),
     }
 }
 
@@ -151,8 +135,7 @@ fn send(
     value: u32,
     out: &mut Outbox,
 )
-    requires usable { time ≤ last_usable }
-    requires room { RoomFor (send_all process time ordinal tally value (send ∷ [])) out.old }
+    requires { RoomFor (send_all process time ordinal tally value (send ∷ [])) out.old }
     ensures joined { Joined (send_all process time ordinal tally value (send ∷ [])) out.old out.new }
     ensures same_rows { SameRows out.new out.old }
 {
@@ -180,7 +163,7 @@ fn send_all(
     value: u32,
     out: &mut Outbox,
 )
-    requires usable { (time ≤ last_usable) × (ordinal ≤ 128) }
+    requires ordinal_bound { ordinal ≤ 128 }
     requires room { RoomFor (send_all process time ordinal tally value (rule_of rule).sends) out.old }
     ensures joined { Joined (send_all process time ordinal tally value (rule_of rule).sends) out.old out.new }
     ensures same_rows { SameRows out.new out.old }
@@ -201,7 +184,7 @@ fn perform_row(
     w: Walk,
     out: &mut Outbox,
 ) -> Walk
-    requires usable { (time ≤ last_usable) × Within 64 w }
+    requires within { Within 64 w }
     requires room { RoomFor (done_from rules.now process time w (read_of time row)).sends out.old }
     ensures row_read { RowRead rules.now time row w result }
     ensures joined { Joined (done_from rules.now process time w (read_of time row)).sends out.old out.new }

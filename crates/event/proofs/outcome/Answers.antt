@@ -12,7 +12,7 @@ returns-then-time-row c =
     λ p. left_end a.rules.now a.rows.now p a.time a.stand o.row-index o.w none (within_all o.row-index o.w (omega (arith, c.requires.few)) o.invariant.within) (o.invariant.left p)
 
 pub read-requires : goal.read-requires
-read-requires c = let o = c.loop-row in (c.requires.usable, within_all o.row-index o.w (omega (arith, c.requires.few)) o.invariant.within)
+read-requires c = let o = c.loop-row in within_all o.row-index o.w (omega (arith, c.requires.few)) o.invariant.within
 
 pub loop-row-preserved : goal.loop-row-preserved
 loop-row-preserved c =

@@ -16,7 +16,7 @@ perform_row-w-requires c =
     let a = c.args in
     let o = c.loop-row in
     record {
-      usable = (c.requires.readable.usable, within_all o.row-index o.w (omega (arith, c.requires.readable.few)) o.invariant.within);
+      within = within_all o.row-index o.w (omega (arith, c.requires.readable.few)) o.invariant.within;
       room = row_room a.rules.now a.rows.now a.process a.time a.stand o.row-index (omega arith) o.w _ _ o.invariant.leaving c.requires.room;
     }
 

@@ -8,7 +8,7 @@ pub send-requires : goal.send-requires
 send-requires c =
     let a = c.args in
     let one = ap length (send_timely a.process a.time a.ordinal a.tally a.value a.send (sym c.is_sent.ensures ∙ c.if-is_sent.true)) in
-    (omega (arith, one, c.requires.room.0), omega (arith, one, c.requires.room.1))
+    (omega (arith, one, c.requires.0), omega (arith, one, c.requires.1))
 
 pub returns-then-is_sent-clause-joined : goal.returns-then-is_sent-clause-joined
 returns-then-is_sent-clause-joined c =

@@ -7,8 +7,8 @@ use Rattle.event.proofs.send_all.Goals as goal
 pub loop-i-init : goal.loop-i-init
 loop-i-init c = let a = c.args in record { joined = rw (sends_none a.process a.time a.ordinal a.tally a.value) (joined_none _); same_rows = (refl, refl) }
 
-pub send-requires-clause-room : goal.send-requires-clause-room
-send-requires-clause-room c =
+pub send-requires : goal.send-requires
+send-requires c =
     let a = c.args in
     let o = c.loop-i in
     let j = o.invariant.joined in
