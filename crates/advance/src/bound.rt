@@ -8,6 +8,7 @@ use definition::lent::{Own, Queue, Row, WHOLE};
 use definition::numbers::NEVER;
 use definition::{Stand, Time};
 use memory::{ENTRIES, EVENTS, HORIZON, MAILS, MODE, TALLY};
+use queue::input::Entries;
 
 // The unread time of one process.
 #[tactic(auto, unfolding(crate::specs::Bound::unread_of))]
@@ -22,7 +23,7 @@ fn unread(own: &[Row], inputs: &[Row]) -> Time
         tally: numbers[TALLY],
     };
     let last = history::last(own, numbers[EVENTS] as usize, base);
-    queue::input::unread(&inputs[..numbers[ENTRIES] as usize], last.time)
+    Entries::new(&inputs[..numbers[ENTRIES] as usize]).unread(last.time)
 }
 
 // The least unread time of the processes.
