@@ -8,6 +8,7 @@ use Rattle.std.proofs.Common.{Less, Equal, Greater, sym, ◌∙◌, ap, arith, a
 use Rattle.std.proofs.Math.Bool.{true, false}
 use mathlib.Core.List.{List, [], ◌∷◌, map}
 use Rattle.definition.specs.Lists.{all, compare_keys, compare, is_less, in_order}
+use Rattle.std.proofs.lemmas.Bool.{false≢true, true≢false}
 use Rattle.laws.specs.Tests.{split}
 use Rattle.laws.specs.Walks.{walked, less_first, more_first, less_second}
 
@@ -32,37 +33,63 @@ module _ {A B : Type 0} (said : A → B) where
     abbrev pub said_before : A → A → Bool
     said_before x y = is_less (compare key (said x) (said y))
 
-    in_order_each : (l : List A) → AllAdjacentBelow (λ x y. true ≡ said_before x y) l (length l) → true ≡ in_order key (map said l)
-    unfolding in_order
-    in_order_each [] h = refl
-    in_order_each (x ∷ []) h = refl
-    in_order_each (x ∷ y ∷ l) h =
-        rw (sym (h 0 x (omega arith))) (in_order_each (y ∷ l) (λ k d i. rw add-one (rw add-one at (h (suc k) d (omega arith)))))
+    module _ (f : B → Bool) where
+      -- the first stands before the second, and the second passes
+      abbrev pub passes_after : A → A → Bool
+      passes_after x y = said_before x y && f (said y)
 
-    in_order_once : (l : List A) (k : ℕ) → k + 1 < length l → ((d : A) → false ≡ said_before (get_or l k d) (get_or l (k + 1) d)) → false ≡ in_order key (map said l)
-    unfolding in_order
-    in_order_once [] k i h = absurd (omega arith)
-    in_order_once (x ∷ []) k i h = absurd (omega arith)
-    in_order_once (x ∷ y ∷ l) zero i h = rw (sym (h x))
-    in_order_once (x ∷ y ∷ l) (suc k) i h =
-        let later = in_order_once (y ∷ l) k (omega arith) (λ d. rw add-one (rw add-one at (h d))) in
-        rw (sym later) (no_and (said_before x y))
-      where
-        no_and : (a : Bool) → false ≡ a && false
-        no_and true = refl
-        no_and false = refl
+      -- one of them does not pass, or does not stand after the one before it
+      pass_fails : (l : List A) (k : ℕ) → k + 1 < length l → ((d : A) → false ≡ passes_after (get_or l k d) (get_or l (k + 1) d)) → false ≡ walked f key (map said l)
+      unfolding all in_order
+      pass_fails [] k i h = absurd (omega arith)
+      pass_fails (x ∷ []) k i h = absurd (omega arith)
+      pass_fails (x ∷ y ∷ l) zero i h = here (f (said x)) (f (said y)) (all f (map said l)) (said_before x y) _ (h x)
+        where
+          here : (a b c d e : Bool) → false ≡ d && b → false ≡ (a && (b && c)) && (d && e)
+          here true true true true e h = absurd (false≢true h)
+          here true true true false e h = refl
+          here true true false d e h = refl
+          here true false c d e h = refl
+          here false b c d e h = refl
+      pass_fails (x ∷ y ∷ l) (suc k) i h = later (f (said x)) (all f (map said (y ∷ l))) (said_before x y) _ (pass_fails (y ∷ l) k (omega arith) (λ d. rw add-one (rw add-one at (h d))))
+        where
+          later : (a b c d : Bool) → false ≡ b && d → false ≡ (a && b) && (c && d)
+          later true true true true h = absurd (false≢true h)
+          later true true true false h = refl
+          later true true false d h = refl
+          later true false c d h = refl
+          later false b c d h = refl
 
-    order_said : (l : List A) (r : Bool) → IsAllAdjacentAnswer (λ x y b. b ≡ said_before x y) l r → r ≡ in_order key (map said l)
-    order_said l true h = in_order_each l h
-    order_said l false h = in_order_once l h.0 h.1 h.2
+      -- the first passes, and each of the others passes and stands after the one before it
+      pass_holds : (x : A) (l : List A) → f (said x) ≡ true → AllAdjacentBelow (λ x y. true ≡ passes_after x y) (x ∷ l) (length (x ∷ l)) → true ≡ walked f key (map said (x ∷ l))
+      unfolding all in_order
+      pass_holds x [] e h = rw e refl
+      pass_holds x (y ∷ l) e h =
+          let t = both (said_before x y) (f (said y)) (h 0 x (omega arith)) in
+          rw (e, t.0) (pass_holds y l t.1 (λ k d i. rw add-one (rw add-one at (h (suc k) d (omega arith)))))
+        where
+          both : (a b : Bool) → true ≡ a && b → (a ≡ true) × (b ≡ true)
+          both true true h = (refl, refl)
+          both true false h = absurd (true≢false h)
+          both false b h = absurd (true≢false h)
 
-    -- `all` says no, and then `is_sorted_by` is not asked
-    pub check_fails : (f : B → Bool) (l : List A) (r : Bool) → r ≡ list_all (λ x. f (said x)) l → r ≡ false → r ≡ walked f key (map said l)
-    check_fails f l r e wrong = rw (sym (all_said f l), sym e, wrong)
+      -- there is none
+      pub pass_none : (l : List A) → length l ≡ 0 → true ≡ walked f key (map said l)
+      unfolding all in_order
+      pass_none [] e = refl
+      pass_none (x ∷ l) e = absurd (omega arith)
 
-    -- `all` says yes, and `is_sorted_by` answers
-    pub check_ends : (f : B → Bool) (l : List A) (r sorted : Bool) → r ≡ list_all (λ x. f (said x)) l → r ≡ true → IsAllAdjacentAnswer (λ x y b. b ≡ said_before x y) l sorted → sorted ≡ walked f key (map said l)
-    check_ends f l r sorted e right h = rw (sym (all_said f l), sym e, right) (order_said l sorted h)
+      -- the first does not pass
+      pub pass_stops : (d : A) (l : List A) → 0 < length l → f (said (get_or l 0 d)) ≡ false → false ≡ walked f key (map said l)
+      unfolding all
+      pass_stops d [] h e = absurd (omega arith)
+      pass_stops d (x ∷ l) h e = rw e refl
+
+      -- the first passes, and `is_sorted_by` answers of the others
+      pub pass_ends : (d : A) (l : List A) (r : Bool) → 0 < length l → f (said (get_or l 0 d)) ≡ true → IsAllAdjacentAnswer (λ x y b. b ≡ passes_after x y) l r → r ≡ walked f key (map said l)
+      pass_ends d [] r h e a = absurd (omega arith)
+      pass_ends d (x ∷ l) true h e a = pass_holds x l e a
+      pass_ends d (x ∷ l) false h e a = pass_fails (x ∷ l) a.0 a.1 a.2
 
 pub pair_before : (a c b d : ℕ) → partial_lt (λ (x y : ℕ × ℕ). partial_ordering_then (Some (nat_cmp x.0 y.0)) (Some (nat_cmp x.1 y.1))) (a, c) (b, d) ≡ is_less (compare_keys (a ∷ c ∷ []) (b ∷ d ∷ []))
 pair_before a c b d =

@@ -1,4 +1,4 @@
-// The rows of a queue: each row's fields, and each row before the next.
+// The rows of a queue, in one pass: each row's fields, and each row before the next. It leaves at the first that is not right.
 ghost use Rattle.std.specs.Prelude.{◌≡◌, ◌&&◌, map};
 ghost use Rattle.definition.specs.Lists.{all, in_order, compare, is_less};
 ghost use Rattle.definition.specs.Message.{output_key};
@@ -26,10 +26,13 @@ fn read_before(a: &Row, b: &Row) -> bool
 pub fn ok_entries(entries: &[Row], processes: u32, horizon: Time, process: u32) -> bool
     ensures { result ≡ all (ok_entry processes horizon process) (map entry_of entries.now) && in_order entry_key (map entry_of entries.now) }
 {
-    entries
-        .iter()
-        .all(|e| row::ok_entry(*e, processes, horizon, process))
-        && entries.is_sorted_by(read_before)
+    if entries.is_empty() {
+        return true;
+    }
+    row::ok_entry(entries[0], processes, horizon, process)
+        && entries.is_sorted_by(|former, e| {
+            read_before(former, e) && row::ok_entry(*e, processes, horizon, process)
+        })
 }
 
 // An event of this time is in the history.
@@ -57,18 +60,32 @@ fn sent_before(a: &Row, b: &Row) -> bool
 pub fn ok_outputs(outputs: &[Row], processes: u32, process: u32, events: &[Row]) -> bool
     ensures { result ≡ all (ok_output processes process (map saved_of events.now)) (map message_of outputs.now) && in_order output_key (map message_of outputs.now) }
 {
-    outputs
-        .iter()
-        .all(|e| ok_output(*e, processes, process, events))
-        && outputs.is_sorted_by(sent_before)
+    if outputs.is_empty() {
+        return true;
+    }
+    ok_output(outputs[0], processes, process, events)
+        && outputs.is_sorted_by(|former, e| {
+            sent_before(former, e) && ok_output(*e, processes, process, events)
+        })
+}
+
+// By time.
+#[tactic(auto, using(laws::specs::Walks::less_only))]
+fn run_before(a: &Row, b: &Row) -> bool
+    ensures { result ≡ is_less (compare saved_key (saved_of a.now) (saved_of b.now)) }
+{
+    a[TIME] < b[TIME]
 }
 
 // The events of a process.
 pub fn ok_events(events: &[Row], horizon: Time) -> bool
     ensures { result ≡ all (ok_saved horizon) (map saved_of events.now) && in_order saved_key (map saved_of events.now) }
 {
-    events.iter().all(|e| row::ok_event(*e, horizon))
-        && events.is_sorted_by(|a, b| a[TIME] < b[TIME])
+    if events.is_empty() {
+        return true;
+    }
+    row::ok_event(events[0], horizon)
+        && events.is_sorted_by(|former, e| run_before(former, e) && row::ok_event(*e, horizon))
 }
 
 // The messages in transit.

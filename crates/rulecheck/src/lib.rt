@@ -2,7 +2,7 @@
 // 01 asks of a model. A call that is handed rows of any other kind refuses them by 16. Each test that fails leaves at once.
 #![tactic(auto)]
 
-ghost use Rattle.std.specs.Prelude.{◌≡◌, ◌≤◌, length, take};
+ghost use Rattle.std.specs.Prelude.{◌≡◌, ◌&&◌, ◌≤◌, length, take};
 ghost use Rattle.definition.specs.Lists.{all, compare, is_less};
 ghost use Rattle.definition.specs.Model.{ok_effect, ok_value, ok_send, ok_rule};
 ghost use Rattle.rule.specs.Rows.{rule_of, shaped_tag, shaped_rule, lawful_model};
@@ -92,11 +92,21 @@ fn before(a: &RuleRow, b: &RuleRow) -> bool
     (a[MODE], a[KIND]) < (b[MODE], b[KIND])
 }
 
-// Each rule is right, and stands before the next.
+// A rule stands after the one before it, and is right.
+fn follows(former: &RuleRow, row: &RuleRow, processes: u32) -> bool
+    ensures { result ≡ (is_less (compare row_key former.now row.now) && ok_row processes row.now) }
+{
+    before(former, row) && ok_row(*row, processes)
+}
+
+// Each rule is right, and stands before the next. One pass leaves at the first that is not.
 fn ok_rules(rules: &[RuleRow], processes: u32) -> bool
     ensures { result ≡ ok_rows processes rules.now }
 {
-    rules.iter().all(|row| ok_row(*row, processes)) && rules.is_sorted_by(before)
+    if rules.is_empty() {
+        return true;
+    }
+    ok_row(rules[0], processes) && rules.is_sorted_by(|former, row| follows(former, row, processes))
 }
 
 // One process: as many rows as there must be, its first stand, its rules.
