@@ -67,7 +67,7 @@ module _ (p t o y v : ℕ) where
     send_row m x h e k = send_timely h ∙ ap (λ (u : Message). u ∷ []) (sym (k ∙ ap (message_from p t o s.receiver (t + s.delay) s.kind) e))
 
     -- the others have the ordinals after it, whether or not it is sent
-    sends_cons : (ss : List Send) → send_all p t o y v (s ∷ ss) ≡ send_all p t o y v (s ∷ []) ++ send_all p t (o + 1) y v ss
+    pub sends_cons : (ss : List Send) → send_all p t o y v (s ∷ ss) ≡ send_all p t o y v (s ∷ []) ++ send_all p t (o + 1) y v ss
     unfolding send_all
     sends_cons ss = rw (add-one o) (go (leb (t + s.delay) last_usable))
       where
@@ -132,6 +132,14 @@ module _ (d : Decoded) where
 
   pub rule_length : length (rule_of d).sends ≡ min d.count 2
   rule_length = length-take d.count both
+
+  pub both_sends : 2 ≤ d.count → (rule_of d).sends ≡ both
+  both_sends h = go d.count h
+    where
+      go : (k : ℕ) → 2 ≤ k → take k both ≡ both
+      go zero h = absurd (omega arith)
+      go (suc zero) h = absurd (omega arith)
+      go (suc (suc k)) h = ap (λ (l : List Send). d.first ∷ d.second ∷ l) (take-nil k)
 
   pub rule_sends : (n : ℕ) → n ≡ length (rule_of d).sends → take n both ≡ (rule_of d).sends
   rule_sends n e = ap (λ (k : ℕ). take k both) e ∙ go d.count

@@ -32,15 +32,26 @@ fn is_sent(send: Send, time: Time) -> bool
     time.saturating_add(send.delay) <= LAST_USABLE
 }
 
-// How many messages a rule sends.
+// How many messages a send sends.
+fn sent_by(send: Send, time: Time) -> usize
+    ensures { Counted time (send ∷ []) result }
+{
+    if is_sent(send, time) { 1 } else { 0 }
+}
+
+// How many messages a rule sends. Here and in `send_all` its count is looked at before its sends are: as an array alone, both would be read with each
+// message, and an event of many messages that send nothing would take three fifths more instructions.
 fn sends(rule: Decoded, time: Time) -> usize
     ensures { Counted time (rule_of rule).sends result }
 {
-    [rule.first, rule.second]
-        .iter()
-        .take(rule.count as usize)
-        .filter(|send| is_sent(**send, time))
-        .count()
+    if rule.count == 0 {
+        return 0;
+    }
+    let first = sent_by(rule.first, time);
+    if rule.count == 1 {
+        return first;
+    }
+    first + sent_by(rule.second, time)
 }
 
 // How many ordinals a rule uses: one for each send, sent or not.
@@ -169,6 +180,9 @@ fn send_all(
     ensures joined { Joined (send_all process time ordinal tally value (rule_of rule).sends) out.old out.new }
     ensures same_rows { SameRows out.new out.old }
 {
+    if rule.count == 0 {
+        return;
+    }
     let both = [rule.first, rule.second];
     let sends = &both[..ordinals(rule) as usize];
     for (i, one) in sends.iter().enumerate() {

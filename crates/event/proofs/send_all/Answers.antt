@@ -4,6 +4,9 @@ use Rattle.event.proofs.Sending.{sends_none, sends_more, sends_room, rule_sends}
 use Rattle.event.proofs.Joining.{joined_none, joined_then}
 use Rattle.event.proofs.send_all.Goals as goal
 
+pub returns-then-rule-eq0 : goal.returns-then-rule-eq0
+returns-then-rule-eq0 c = let a = c.args in record { joined = rw c.if-rule-eq0.true (rw (sends_none a.process a.time a.ordinal a.tally a.value) (joined_none _)); same_rows = (refl, refl) }
+
 pub loop-i-init : goal.loop-i-init
 loop-i-init c = let a = c.args in record { joined = rw (sends_none a.process a.time a.ordinal a.tally a.value) (joined_none _); same_rows = (refl, refl) }
 

@@ -1,14 +1,27 @@
--- Those of the sends that count are counted which are sent.
-use Rattle.std.proofs.Common.{rules, take, [], ◌∷◌}
-use Rattle.std.proofs.lemmas.Iterator.{YieldsList-from_slice, YieldsList-from_take}
-use Rattle.std.proofs.lemmas.Iterator.Consumers.{YieldsList-from_filter, count_from_yields_List}
-use Rattle.event.proofs.Sending.{sent_at, counted}
+-- By the count of sends.
+use Rattle.std.proofs.Common.{arith, length, length-append, [], ◌∷◌, ◌+◌, refl, ap, ◌∙◌}
+use Rattle.definition.specs.Model.{send_all}
+use Rattle.event.proofs.Sending.{sends_cons, sends_none, counted_few, both_sends}
 use Rattle.event.proofs.sends.Goals as goal
+
+pub returns-then-rule-eq0 : goal.returns-then-rule-eq0
+returns-then-rule-eq0 c = let a = c.args in λ p o y v. rw c.if-rule-eq0.true (rw (sends_none p a.time o y v) refl)
+
+pub returns-then-rule-eq1 : goal.returns-then-rule-eq1
+returns-then-rule-eq1 c = rw c.if-rule-eq1.true c.sent_by-first.ensures
+
+pub overflow_add-result : goal.overflow_add-result
+overflow_add-result c =
+    let a = c.args in
+    omega (arith, counted_few a.time (a.rule.first ∷ []) _ c.sent_by-first.ensures, counted_few a.time (a.rule.second ∷ []) _ c.sent_by.ensures)
 
 pub returns : goal.returns
 returns c =
     let a = c.args in
-    let both = a.rule.first ∷ a.rule.second ∷ [] in
-    let own = YieldsList-from_take a.rule.count (YieldsList-from_slice both cc) cc in
-    counted a.time (take a.rule.count both) c.count.result
-    (count_from_yields_List _ c.count.result c.count.ensures.ran (YieldsList-from_filter _ (sent_at a.time) own c.filter.ensures.closure (λ x b q k. search rules)))
+    rw (both_sends a.rule (omega (arith, c.if-rule-eq0.false, c.if-rule-eq1.false)))
+    (λ p o y v. omega (
+      arith,
+      c.sent_by-first.ensures p o y v,
+      c.sent_by.ensures p (o + 1) y v,
+      ap length (sends_cons p a.time o y v a.rule.first (a.rule.second ∷ [])) ∙ length-append (send_all p a.time o y v (a.rule.first ∷ [])) (send_all p a.time (o + 1) y v (a.rule.second ∷ [])),
+    ))
