@@ -11,7 +11,7 @@ ghost use Rattle.definition.specs.ModelBytes.{field as field_at};
 use definition::refusal::{Fault, Refusal};
 
 // The number at a place, from low to high, with the place of the next one; or its fault. As a call, with what it answers in memory, it takes a
-// fifteenth of the reading of a record's entry.
+// twelfth of the reading of a record's entry.
 #[inline(always)]
 pub fn field(bytes: &[u8], low: u32, high: u32, at: usize) -> Result<(u32, usize), Fault>
     ensures { parsed result ≡ field_at bytes.now low high at }

@@ -23,14 +23,11 @@ const LAST_GROUPS: u32 = 16;
 pub fn read(bytes: &[u8], at: usize) -> Result<(u32, usize), Refusal>
     ensures { number_in result ≡ number_at bytes.now at }
 {
-    if bytes.len() < at {
-        return Err(Refusal::Cut);
-    }
     let mut more = MORE_GROUPS;
     let mut weight: u32 = 1;
     let mut value: u32 = 0;
-    for (group, byte) in bytes[at..].iter().enumerate() {
-        let byte = u32::from(*byte);
+    for next in at..bytes.len() {
+        let byte = u32::from(bytes[next]);
         if more == 0 && LAST_GROUPS <= byte {
             return Err(Refusal::TooBig);
         }
@@ -38,7 +35,7 @@ pub fn read(bytes: &[u8], at: usize) -> Result<(u32, usize), Refusal>
             if 1 < weight && byte == 0 {
                 return Err(Refusal::Overlong);
             }
-            return Ok((value + weight * byte, at + group + 1));
+            return Ok((value + weight * byte, next + 1));
         }
         value += weight * (byte % GROUP);
         weight *= GROUP;

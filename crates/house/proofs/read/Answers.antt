@@ -1,31 +1,15 @@
-use Rattle.std.proofs.Common.{◌≡◌, refl, sym, ap, ◌∙◌, ◌⊎◌, ℕ, ◌^◌, ◌+◌, ◌*◌, ◌-◌, ◌%◌, ◌<◌, ◌≤◌, List, ◌∷◌, length, get_or, take, drop, Fits, w8, arith, drop_of_length-le, take_all, length-drop, get_or-drop}
+use Rattle.std.proofs.Common.{◌≡◌, refl, sym, ap, ◌∙◌, ◌⊎◌, ℕ, ◌^◌, ◌+◌, ◌*◌, ◌-◌, ◌%◌, ◌<◌, ◌≤◌, List, ◌∷◌, length, get_or, drop, arith, drop_of_length-le}
 use mathlib.Core.Logic.{⊎_elim}
 use Rattle.definition.specs.House.{last_groups, read_groups, number_at}
-use Rattle.house.specs.Groups.{byte_next, byte_cut, byte_too_big, byte_overlong, byte_last, byte_more, byte_follows, byte_held, Room, room_first, room_next, room_sum, room_weight}
+use Rattle.house.specs.Groups.{byte_next, byte_cut, byte_too_big, byte_overlong, byte_last, byte_more, byte_follows, byte_held}
+use Rattle.house.specs.Groups.{Room, room_first, room_next, room_sum, room_weight}
 use Rattle.house.specs.Numbers.{holds}
 use Rattle.house.proofs.read.Goals as goal
 
--- what the loop goes over is the bytes from the place on
-module _ (bs : List ℕ) (at group : ℕ) where
-  abbrev rest : List ℕ
-  rest = take (length bs - at) (drop at bs)
-
-  all : rest ≡ drop at bs
-  all = take_all (length bs - at) (drop at bs) (omega (arith, length-drop at bs))
-
-  within : at ≤ length bs → group < length rest → at + group < length bs
-  within h l = omega (arith, ap length all, length-drop at bs)
-
-  here : get_or rest group 0 ≡ get_or bs (at + group) 0
-  here = rw all (get_or-drop at bs group 0)
-
-  -- the number is what this byte and those after it give
-  turn : (more weight value byte : ℕ) → number_at bs at ≡ read_groups more weight value (at + group) (drop (at + group) bs) → at ≤ length bs → group < length rest
-      → byte ≡ get_or rest group 0 → number_at bs at ≡ read_groups more weight value (at + group) (byte ∷ drop (at + group + 1) bs)
-  turn more weight value byte e h l b = rw (b, here) (e ∙ byte_next _ _ _ _ _ (within h l))
-
-  byte_fits : (byte : ℕ) → byte ≡ get_or rest group 0 → ((i : ℕ) → Fits w8 (get_or bs i 0)) → byte < 256
-  byte_fits byte b f = omega (arith, b ∙ here, f (at + group))
+-- the number is what this byte and those after it give
+turn : (bs : List ℕ) (at more weight value next byte : ℕ) → number_at bs at ≡ read_groups more weight value next (drop next bs) → next < length bs → byte ≡ get_or bs next 0
+    → number_at bs at ≡ read_groups more weight value next (byte ∷ drop (next + 1) bs)
+turn bs at more weight value next byte e l b = rw b (e ∙ byte_next _ _ _ _ _ l)
 
 -- past the test for TooBig, a byte that none may follow is below the bound
 last : (more byte : ℕ) → (more ≡ 0 × byte < 16) ⊎ (more ≡ 0 → ⊥) → more ≡ 0 → byte < last_groups
@@ -36,31 +20,31 @@ room : (more weight value byte : ℕ) → Room more weight value → 128 ≤ byt
     → Room (more - 1) (weight * 128) (value + weight * (byte % 128))
 room more weight value byte r f b l = room_next _ _ _ _ (byte_follows _ _ f l) r (omega arith)
 
-pub loop-group-init : goal.loop-group-init
+pub loop-next-init : goal.loop-next-init
 unfolding number_at
-loop-group-init c = let e : c.args.at + 0 ≡ c.args.at = omega arith in (room_first, rw e refl)
+loop-next-init c = (room_first, refl)
 
 pub returns-then-byte-ge-LAST_GROUPS : goal.returns-then-byte-ge-LAST_GROUPS
 returns-then-byte-ge-LAST_GROUPS c =
-    sym (turn _ _ _ _ _ _ _ c.loop-group.invariant.1 (omega arith) c.loop-group-test.true c.from-byte.ensures ∙ byte_too_big _ _ _ _ _ _ (omega arith) (omega arith))
+    sym (turn _ _ _ _ _ _ _ c.loop-next.invariant.1 c.loop-next-test.true c.from-byte.ensures ∙ byte_too_big _ _ _ _ _ _ (omega arith) (omega arith))
 
 pub returns-then-byte-eq0 : goal.returns-then-byte-eq0
 returns-then-byte-eq0 c =
-    sym (turn _ _ _ _ _ _ _ c.loop-group.invariant.1 (omega arith) c.loop-group-test.true c.from-byte.ensures ∙ byte_overlong _ _ _ _ _ _ (omega arith) (omega arith))
+    sym (turn _ _ _ _ _ _ _ c.loop-next.invariant.1 c.loop-next-test.true c.from-byte.ensures ∙ byte_overlong _ _ _ _ _ _ (omega arith) (omega arith))
 
 -- a byte that ends the number is held, and so is the number
 held : (more weight value byte : ℕ) → Room more weight value → byte < 128 → (more ≡ 0 → byte < last_groups) → value + weight * byte < 2 ^ 32
 held more weight value byte r h l = omega (arith, room_sum _ _ _ _ r (byte_held _ _ h l), holds)
 
 pub overflow_mul-result : goal.overflow_mul-result
-overflow_mul-result c = omega (arith, held _ _ _ _ c.loop-group.invariant.0 c.if-byte-lt-GROUP.true (last _ _ c.else-more-eq0.either))
+overflow_mul-result c = omega (arith, held _ _ _ _ c.loop-next.invariant.0 c.if-byte-lt-GROUP.true (last _ _ c.else-more-eq0.either))
 
 pub overflow_add-result : goal.overflow_add-result
-overflow_add-result c = omega (arith, held _ _ _ _ c.loop-group.invariant.0 c.if-byte-lt-GROUP.true (last _ _ c.else-more-eq0.either))
+overflow_add-result c = omega (arith, held _ _ _ _ c.loop-next.invariant.0 c.if-byte-lt-GROUP.true (last _ _ c.else-more-eq0.either))
 
 pub returns-then-byte-lt-GROUP : goal.returns-then-byte-lt-GROUP
 returns-then-byte-lt-GROUP c =
-    sym (turn _ _ _ _ _ _ _ c.loop-group.invariant.1 (omega arith) c.loop-group-test.true c.from-byte.ensures
+    sym (turn _ _ _ _ _ _ _ c.loop-next.invariant.1 c.loop-next-test.true c.from-byte.ensures
     ∙ byte_last _ _ _ _ _ _ _ _ c.if-byte-lt-GROUP.true (byte_held _ _ c.if-byte-lt-GROUP.true (last _ _ c.else-more-eq0.either))
     (λ l. ⊎_elim (λ w. omega (arith, w)) (λ w. absurd (omega (arith, w))) c.else-weight-gt1.either) refl refl)
 
@@ -75,30 +59,22 @@ next more weight value byte r f b l =
 
 pub overflow_mul-value : goal.overflow_mul-value
 overflow_mul-value c =
-    omega (arith, (next _ _ _ _ c.loop-group.invariant.0 c.if-byte-lt-GROUP.false (byte_fits _ _ _ _ c.from-byte.ensures c.type_inv.bytes) (last _ _ c.else-more-eq0.either)).0)
+    omega (arith, (next _ _ _ _ c.loop-next.invariant.0 c.if-byte-lt-GROUP.false (omega (arith, c.from-byte.ensures, c.type_inv.bytes c.loop-next.next)) (last _ _ c.else-more-eq0.either)).0)
 
 pub overflow_add-value : goal.overflow_add-value
 overflow_add-value c =
-    omega (arith, (next _ _ _ _ c.loop-group.invariant.0 c.if-byte-lt-GROUP.false (byte_fits _ _ _ _ c.from-byte.ensures c.type_inv.bytes) (last _ _ c.else-more-eq0.either)).0)
+    omega (arith, (next _ _ _ _ c.loop-next.invariant.0 c.if-byte-lt-GROUP.false (omega (arith, c.from-byte.ensures, c.type_inv.bytes c.loop-next.next)) (last _ _ c.else-more-eq0.either)).0)
 
 pub overflow_mul-weight : goal.overflow_mul-weight
 overflow_mul-weight c =
-    omega (arith, (next _ _ _ _ c.loop-group.invariant.0 c.if-byte-lt-GROUP.false (byte_fits _ _ _ _ c.from-byte.ensures c.type_inv.bytes) (last _ _ c.else-more-eq0.either)).1)
+    omega (arith, (next _ _ _ _ c.loop-next.invariant.0 c.if-byte-lt-GROUP.false (omega (arith, c.from-byte.ensures, c.type_inv.bytes c.loop-next.next)) (last _ _ c.else-more-eq0.either)).1)
 
-pub loop-group-preserved : goal.loop-group-preserved
-loop-group-preserved c =
-    let e : c.args.at + (c.loop-group.group + 1) ≡ c.args.at + c.loop-group.group + 1 = omega arith in (
-      room _ _ _ _ c.loop-group.invariant.0 c.if-byte-lt-GROUP.false (byte_fits _ _ _ _ c.from-byte.ensures c.type_inv.bytes) (last _ _ c.else-more-eq0.either),
-      rw e (turn _ _ _ _ _ _ _ c.loop-group.invariant.1 (omega arith) c.loop-group-test.true c.from-byte.ensures
-          ∙ byte_more _ _ _ _ _ _ (byte_follows _ _ c.if-byte-lt-GROUP.false (last _ _ c.else-more-eq0.either)) c.if-byte-lt-GROUP.false),
-    )
-
-pub returns-then-bytes-at : goal.returns-then-bytes-at
-unfolding number_at
-returns-then-bytes-at c =
-    let z : length c.args.bytes.now ≤ c.args.at = omega arith in sym (ap (read_groups _ _ _ _) (drop_of_length-le _ z) ∙ byte_cut 4 1 0 c.args.at)
+pub loop-next-preserved : goal.loop-next-preserved
+loop-next-preserved c = (
+  room _ _ _ _ c.loop-next.invariant.0 c.if-byte-lt-GROUP.false (omega (arith, c.from-byte.ensures, c.type_inv.bytes c.loop-next.next)) (last _ _ c.else-more-eq0.either),
+  turn _ _ _ _ _ _ _ c.loop-next.invariant.1 c.loop-next-test.true c.from-byte.ensures
+      ∙ byte_more _ _ _ _ _ _ (byte_follows _ _ c.if-byte-lt-GROUP.false (last _ _ c.else-more-eq0.either)) c.if-byte-lt-GROUP.false,
+)
 
 pub returns : goal.returns
-returns c =
-    let z : length c.args.bytes.now ≤ c.args.at + c.loop-group.group = omega (arith, c.loop-group-test.false, ap length (all c.args.bytes.now c.args.at 0), length-drop c.args.at c.args.bytes.now) in
-    sym (c.loop-group.invariant.1 ∙ ap (read_groups _ _ _ _) (drop_of_length-le _ z) ∙ byte_cut _ _ _ _)
+returns c = sym (c.loop-next.invariant.1 ∙ ap (read_groups _ _ _ _) (drop_of_length-le _ c.loop-next-test.false) ∙ byte_cut _ _ _ _)
