@@ -118,9 +118,6 @@ sends_counted p t o y v (s ∷ ss) = go (sent_at t s) (sends_counted p t (suc o)
     go true h = ap suc h
     go false h = h
 
-pub counted : (t : ℕ) (ss : List Send) (k : ℕ) → k ≡ length (filter (sent_at t) ss) → Counted t ss k
-counted t ss k e p o y v = e ∙ sends_counted p t o y v ss
-
 pub counted_few : (t : ℕ) (ss : List Send) (k : ℕ) → Counted t ss k → k ≤ length ss
 counted_few t ss k e = omega (arith, e 0 0 0 0, sends_counted 0 t 0 0 0 ss, length-filter (sent_at t) ss, count_by-le-length (sent_at t) ss)
 
